@@ -1,0 +1,11 @@
+use Rattle.bank.proofs.Registry.{registers-sound}
+use Rattle.bank.proofs.Singles.{read-past, read-within}
+use Rattle.bank.proofs.registers.RegistersBank.read.Needs as need
+
+pub returns-then-offset-len : need.returns-then-offset-len
+returns-then-offset-len c =
+    read-past _ (registers-sound (c .args .self .now)) _ _ _ (c .len .ensures) (c .if-offset-len .taken)
+
+pub returns : need.returns
+returns c =
+    read-within _ (registers-sound (c .args .self .now)) _ _ _ (c .len .ensures) (c .if-offset-len .left)

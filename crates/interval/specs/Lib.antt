@@ -1,0 +1,4 @@
+pub mod Calls
+pub mod Edits
+pub mod Laws
+pub mod Stretches

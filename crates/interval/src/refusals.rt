@@ -1,0 +1,14 @@
+// Why a call answers no.
+#[derive(Clone, Copy, Debug, PartialEq, Eq)]
+pub enum Refusal {
+    // a length of 0
+    Empty,
+    // an end above 2^40
+    High,
+    // more live records than the table has, or live records out of order
+    Disorder,
+    // a put on an address that is not free
+    Taken,
+    // the result does not fit the table
+    Short,
+}

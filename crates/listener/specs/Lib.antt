@@ -1,0 +1,3 @@
+pub mod Filtering
+pub mod Hearing
+pub mod Slots

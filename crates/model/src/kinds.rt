@@ -1,0 +1,7 @@
+// What the bytes of a device are: memory, fixed content, or registers.
+#[derive(Clone, Copy, Debug, PartialEq, Eq)]
+pub enum Kind {
+    Ram,
+    Rom,
+    Reg,
+}

@@ -1,0 +1,5 @@
+mod Bounded
+mod RootAlone
+pub mod Steps
+pub mod Agree
+mod Sighted

@@ -1,0 +1,3 @@
+// Tests of crate tree.
+#[cfg(test)]
+mod tests;
