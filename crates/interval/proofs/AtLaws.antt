@@ -3,10 +3,10 @@ use mathlib.Core.Path.{_≡_, refl, sym, ap, _∙_}
 use mathlib.Core.Bool.{Bool, true, false, cond, _&&_}
 use mathlib.Core.Logic.{_⊎_, inl, inr}
 use mathlib.Core.List.{List, [], _∷_, _++_, append-assoc}
-use Prim.Native.Nat.{ℕ, _+_, _-_, _<_, _≤_}
+use Prim.Native.Nat.{ℕ, max, _+_, _-_, _<_, _≤_}
 use native.Mathlib.Omega.{arith}
 use lib.Dec.{leb, ltb, eqb}
-use Rattle.std.proofs.shelf.Tests.{and-parts, and-from, and-left, and-right, or-parts, leb-true, leb-false, ltb-true, eqb-true, le-leb, lt-leb, lt-ltb, le-ltb, cond-true, cond-false, cond-both, cases-lt, cases-bool}
+use Rattle.std.proofs.shelf.Tests.{true≢false, and-parts, and-from, and-left, and-right, or-parts, leb-true, leb-false, ltb-true, eqb-true, le-leb, lt-leb, lt-ltb, le-ltb, cond-true, cond-false, cond-both, cases-lt, cases-bool}
 use Rattle.std.proofs.shelf.Ways.{tells}
 use Rattle.std.specs.Options.{mapped}
 use Rattle.std.specs.Vec.{listOf}
@@ -14,8 +14,9 @@ use Rattle.std.specs.Orderings.{Decides}
 use Rattle.std.specs.declared.option.Option.{Option}
 use Rattle.std.specs.declared.option.Option.the-variants.{Some, None}
 use Rattle.interval.specs.declared.stretches.Stretch.{Stretch}
-use Rattle.interval.specs.Stretches.{stop, holds, found, at}
+use Rattle.interval.specs.Stretches.{rising, stop, holds, found, at}
 use Rattle.interval.specs.Edits.{apart, free, left, right, remains, cut, put, paint, runs-on, merged, join-from, join}
+use Rattle.interval.proofs.Spans.{rises}
 
 module _ {L : Type 0} (adv : L → ℕ → L) (a : ℕ) where
   -- the label that a stretch has at the address
@@ -64,6 +65,12 @@ module _ {L : Type 0} (adv : L → ℕ → L) (a : ℕ) where
       let q = and-parts (apart (s .start) (stop s) x) _ f in
       let k : holds x a ≡ false = grind (arith, tells) in
       at-not x xs k ∙ at-free s xs (q .1) h
+
+  at-some : (x : Stretch L) (xs : List (Stretch L)) → holds x a ≡ true → at adv (x ∷ xs) a ≡ None → ⊥
+  at-some x xs h none = never (here x) (sym (at-yes x xs h) ∙ none) refl
+    where
+      never : (o : Option L) → o ≡ None → o ≡ here x → ⊥
+      never o p q = let z : _≡_ {A = ℕ} 0 1 = cc in omega arith
 
   module _ (c e : ℕ) (forward : c < e) where
     two : (x : Stretch L) (xs : List (Stretch L)) → apart c e x ≡ false → at adv (cut adv c e (x ∷ xs)) a ≡ at adv (listOf (left c x) ++ (listOf (right adv e x) ++ cut adv c e xs)) a
@@ -190,3 +197,24 @@ module _ {L : Type 0} (adv : L → ℕ → L) (a : ℕ) where
       pub at-join : (xs : List (Stretch L)) → at adv (join adv same xs) a ≡ at adv xs a
       at-join [] = refl
       at-join (x ∷ xs) = at-join-from xs x
+
+-- where a stretch is not free, something stands at one of its addresses
+pub at-taken : {L : Type 0} (adv : L → ℕ → L) (s : Stretch L) (low : ℕ) (xs : List (Stretch L)) → 0 < s .length → rising low xs ≡ true → free (s .start) (stop s) xs ≡ false
+    → (a : ℕ) × (holds s a ≡ true) × (at adv xs a ≡ None → ⊥)
+at-taken adv s low [] some r f = absurd (true≢false f)
+at-taken adv s low (x ∷ xs) some r f =
+    let p = rises low x xs r in
+    elim (cases-bool (apart (s .start) (stop s) x)) [
+      | inl away ↦ (let q = at-taken adv s (stop x) xs some (p .rest) (sym (ap (λ b. b && free (s .start) (stop s) xs) away) ∙ f) in (
+        q .0,
+        q .1,
+        λ none. elim (cases-bool (holds x (q .0))) [
+          | inl h ↦ at-some adv (q .0) x xs h none
+          | inr h ↦ q .2 (sym (at-not adv (q .0) x xs h) ∙ none)
+        ],
+      ))
+      | inr meets ↦ (let m = max (s .start) (x .start) in
+          let own : holds s m ≡ true = grind (arith, tells) in
+          let held : holds x m ≡ true = grind (arith, tells) in
+          (m, own, at-some adv m x xs held))
+    ]

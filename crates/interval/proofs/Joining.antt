@@ -17,7 +17,7 @@ use Rattle.interval.proofs.Spans.{Rises, rises}
 
 module _ {L : Type 0} (adv : L → ℕ → L) (same : L → L → Bool) (start : List (Stretch L)) (used : ℕ) where
   -- the records below `kept` are done, `last` is the one at hand, and those from `k` on are to come
-  pub record Joined (k kept : ℕ) (last : Stretch L) (table : List (Stretch L)) : Type 0 where
+  pub record Part-joined (k kept : ℕ) (last : Stretch L) (table : List (Stretch L)) : Type 0 where
     pub behind : kept < k
     pub upto : k ≤ used
     pub rest : drop kept table ≡ drop kept start
@@ -25,7 +25,7 @@ module _ {L : Type 0} (adv : L → ℕ → L) (same : L → L → Bool) (start :
     pub order : rising (stop last) (drop k (take used start)) ≡ true
     pub under : stop last ≤ 2 ^ 40
 
-  pub carried : (k i j : ℕ) (x y : Stretch L) (t u : List (Stretch L)) → i ≡ j → x ≡ y → t ≡ u → Joined k j y u → Joined k i x t
+  pub carried : (k i j : ℕ) (x y : Stretch L) (t u : List (Stretch L)) → i ≡ j → x ≡ y → t ≡ u → Part-joined k j y u → Part-joined k i x t
   carried k i j x y t u p q r h = rw (p, q, r) h
 
   module _ (ok : ready start used ≡ true) where
@@ -41,7 +41,7 @@ module _ {L : Type 0} (adv : L → ℕ → L) (same : L → L → Bool) (start :
     long : length (take used start) ≡ used
     long = length-take-le used start within
 
-    pub joined-start : (x : Stretch L) → 0 < used → x ≡ getD start 0 x → Joined 1 0 x start
+    pub joined-start : (x : Stretch L) → 0 < used → x ≡ getD start 0 x → Part-joined 1 0 x start
     joined-start x h read =
         let n = long in
         let e = at-read (λ ys. rising 0 ys) (take used start) 0 x (omega arith) (live 0 x h read) in
@@ -55,7 +55,7 @@ module _ {L : Type 0} (adv : L → ℕ → L) (same : L → L → Bool) (start :
           under = p .under;
         }
 
-    module _ (k kept : ℕ) (last : Stretch L) (table : List (Stretch L)) (size : length table ≡ length start) (inv : Joined k kept last table) (more : k < used) (next : Stretch L) (read : next ≡ getD table k next) where
+    module _ (k kept : ℕ) (last : Stretch L) (table : List (Stretch L)) (size : length table ≡ length start) (inv : Part-joined k kept last table) (more : k < used) (next : Stretch L) (read : next ≡ getD table k next) where
       as-first : next ≡ getD start k next
       as-first =
           let m : kept + (k - kept) ≡ k = omega (arith, inv .behind) in
@@ -72,7 +72,7 @@ module _ {L : Type 0} (adv : L → ℕ → L) (same : L → L → Bool) (start :
       step : join-from adv same last (drop k (take used start)) ≡ join-from adv same last (next ∷ drop (k + 1) (take used start))
       step = let n = long in at-read (join-from adv same last) (take used start) k next (omega arith) (live k next more as-first)
 
-      pub joined-merge : runs-on adv same last next ≡ true → Joined (k + 1) kept (merged last next) table
+      pub joined-merge : runs-on adv same last next ≡ true → Part-joined (k + 1) kept (merged last next) table
       joined-merge t =
           let p = next-rises in
           let touch : stop last ≡ next .start = eqb-true _ _ (and-parts (eqb (stop last) (next .start)) _ t .0) in
@@ -86,7 +86,7 @@ module _ {L : Type 0} (adv : L → ℕ → L) (same : L → L → Bool) (start :
             under = omega (arith, p .under);
           }
 
-      pub joined-keep : runs-on adv same last next ≡ false → Joined (k + 1) (kept + 1) next (set table kept last)
+      pub joined-keep : runs-on adv same last next ≡ false → Part-joined (k + 1) (kept + 1) next (set table kept last)
       joined-keep f =
           let p = next-rises in
           record {
@@ -98,7 +98,7 @@ module _ {L : Type 0} (adv : L → ℕ → L) (same : L → L → Bool) (start :
             under = p .under;
           }
 
-    module _ (k kept : ℕ) (last : Stretch L) (table : List (Stretch L)) (size : length table ≡ length start) (inv : Joined k kept last table) (done : used ≤ k) where
+    module _ (k kept : ℕ) (last : Stretch L) (table : List (Stretch L)) (size : length table ≡ length start) (inv : Part-joined k kept last table) (done : used ≤ k) where
       all : take kept table ++ (last ∷ []) ≡ join adv same (take used start)
       all = let n = long in ap (λ z. take kept table ++ z) (sym (at-drop-all (join-from adv same last) (take used start) k (omega arith))) ∙ inv .front
 

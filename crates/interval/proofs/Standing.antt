@@ -1,6 +1,6 @@
 -- What stands in the table after each edit.
 use mathlib.Core.Path.{_≡_, refl, sym, ap, subst, _∙_}
-use mathlib.Core.Bool.{Bool, true}
+use mathlib.Core.Bool.{Bool, true, false}
 use mathlib.Core.Logic.{inl, inr}
 use mathlib.Core.List.{List, [], _∷_, _++_}
 use Prim.Native.Nat.{ℕ, suc, _+_, _<_, _≤_}
@@ -14,14 +14,14 @@ use Rattle.std.specs.declared.option.Option.{Option}
 use Rattle.std.specs.declared.result.Result.{Result}
 use Rattle.std.specs.declared.result.Result.the-variants.{Ok, Err}
 use Rattle.interval.specs.declared.refusals.Refusal.{Refusal}
-use Rattle.interval.specs.declared.refusals.Refusal.the-variants.{Short, Taken}
+use Rattle.interval.specs.declared.refusals.Refusal.the-variants.{Empty, High, Disorder, Taken, Short}
 use Rattle.interval.specs.declared.stretches.Stretch.{Stretch}
 use Rattle.interval.specs.Calls.{checked, fitted, counted, written, put-goal, cut-goal, paint-goal}
 use Rattle.interval.specs.Edits.{free, put, cut, paint, runs-on, merged, join-from, join}
-use Rattle.interval.specs.Laws.{Stands, Edited, Laid, Was-free, Cut-out, Settled, Maximal, Written}
+use Rattle.interval.specs.Laws.{Stands, Edited, Laid, Was-free, Cut-out, Settled, Maximal, Holds-maximal}
 use Rattle.interval.specs.Stretches.{rising, ready, stop, at}
 use Rattle.interval.proofs.Answered.{passed}
-use Rattle.interval.proofs.AtLaws.{at-put, at-cut, at-paint, at-join, at-free, free-cut}
+use Rattle.interval.proofs.AtLaws.{at-put, at-cut, at-paint, at-join, at-free, at-taken, free-cut}
 use Rattle.interval.proofs.Only.{only}
 use Rattle.interval.proofs.Orders.{rising-put, rising-cut, rising-join, settled-join}
 
@@ -63,6 +63,21 @@ module _ {L : Type 0} (table : List (Stretch L)) where
     | inr f ↦ absurd (ok-err (put-goal table used s) Taken ys (cond-false _ _ _ f) e)
   ]
 
+  put-not-free : (used : ℕ) (s : Stretch L) → put-goal table used s ≡ Err Taken → free (s .start) (stop s) (take used table) ≡ false
+  put-not-free used s e = elim (cases-bool (free (s .start) (stop s) (take used table))) [
+    | inl t ↦ absurd (fitted-taken (put (take used table) s) (sym (cond-true _ _ _ t) ∙ e))
+    | inr f ↦ f
+  ]
+    where
+      two-errs : (o : Result (List (Stretch L)) Refusal) → o ≡ Err Short → o ≡ Err Taken → ⊥
+      two-errs o p q = let z : _≡_ {A = ℕ} 0 1 = cc in omega arith
+
+      fitted-taken : (ys : List (Stretch L)) → fitted table ys ≡ Err Taken → ⊥
+      fitted-taken ys h = elim (cases-bool (leb (length ys) (length table))) [
+        | inl t ↦ ok-err (fitted table ys) Taken ys h (cond-true _ _ _ t)
+        | inr f ↦ two-errs (fitted table ys) (cond-false _ _ _ f) h
+      ]
+
 module _ {L : Type 0} (adv : L → ℕ → L) (table now : List (Stretch L)) (used : ℕ) (r : Result ℕ Refusal) where
   pub put-stands : (s : Stretch L) → checked table used (s .start) (s .length) ≡ Ok tt → r ≡ counted (put-goal table used s) → now ≡ written table (put-goal table used s) → Laid adv table used s now r
   put-stands s ok =
@@ -73,12 +88,16 @@ module _ {L : Type 0} (adv : L → ℕ → L) (table now : List (Stretch L)) (us
       let f = fitted-ok table (put xs s) ys (q .1) in
       (omega (arith, ap length (f .0), f .1), ap (rising 0) (sym (f .0)) ∙ rising-put s 0 xs (omega arith) (p .some) (p .under) (p .order) (q .0), λ a. ap (λ z. at adv z a) (sym (f .0)) ∙ at-put adv a s xs (q .0)))
 
-  pub put-free : (s : Stretch L) → r ≡ counted (put-goal table used s) → Was-free adv table used s r
-  put-free s c = go (put-goal table used s) refl r c
+  pub put-free : (s : Stretch L) → checked table used (s .start) (s .length) ≡ Ok tt → r ≡ counted (put-goal table used s) → Was-free adv table used s r
+  put-free s ok c = go (put-goal table used s) refl r c
     where
       go : (res : Result (List (Stretch L)) Refusal) → put-goal table used s ≡ res → (o : Result ℕ Refusal) → o ≡ counted res → Was-free adv table used s o
       go (Ok ys) e o d = rw d (λ a h. at-free adv a s (take used table) (put-ok table used s ys e .0) h)
-      go (Err x) e o d = rw d tt
+      go (Err Taken) e o d = let p = passed table used (s .start) (s .length) ok in rw d (at-taken adv s 0 (take used table) (p .some) (p .order) (put-not-free table used s e))
+      go (Err Empty) e o d = rw d tt
+      go (Err High) e o d = rw d tt
+      go (Err Disorder) e o d = rw d tt
+      go (Err Short) e o d = rw d tt
 
   module _ (sum : (x : L) (i j : ℕ) → adv (adv x i) j ≡ adv x (i + j)) where
     pub cut-stands : (start size : ℕ) → checked table used start size ≡ Ok tt → r ≡ counted (cut-goal adv table used start size) → now ≡ written table (cut-goal adv table used start size) → Cut-out adv table used start size now r
@@ -117,8 +136,8 @@ module _ {L : Type 0} (adv : L → ℕ → L) (same : L → L → Bool) where
 
   module _ (zero : (x : L) → adv x 0 ≡ x) (sum : (x : L) (i j : ℕ) → adv (adv x i) j ≡ adv x (i + j)) (exact : (x y : L) → Decides (same x y) (x ≡ y)) where
     -- a list that is maximal, written into the front of the table
-    pub written-only : (shows : ℕ → Option L) (table ys now : List (Stretch L)) (n : ℕ) → length ys ≤ length table → Maximal adv same shows ys → n ≡ length ys → now ≡ ys ++ drop n table → Written adv same shows table now n
-    written-only shows table ys now n fits m count after =
+    pub holds-maximal : (shows : ℕ → Option L) (table ys now : List (Stretch L)) (n : ℕ) → length ys ≤ length table → Maximal adv same shows ys → n ≡ length ys → now ≡ ys ++ drop n table → Holds-maximal adv same shows table now n
+    holds-maximal shows table ys now n fits m count after =
         let front : ys ≡ take n now = sym (ap (take n) after ∙ take-at ys (drop n table) n (sym count)) in
         record {
           stands = stands adv shows table ys now n fits (m .order) (m .labels) count after;
@@ -127,12 +146,12 @@ module _ {L : Type 0} (adv : L → ℕ → L) (same : L → L → Bool) where
         }
 
     pub join-stands : (table now : List (Stretch L)) (used n : ℕ) → ready table used ≡ true → n ≡ length (join adv same (take used table)) → now ≡ join adv same (take used table) ++ drop n table
-        → Written adv same (at adv (take used table)) table now n
+        → Holds-maximal adv same (at adv (take used table)) table now n
     join-stands table now used n ok count after =
         let q = and-parts (leb used (length table)) _ ok in
         let w = leb-true _ _ (q .0) in
         let xs = take used table in
         let k = length-join xs in
         let t = length-take used table in
-        written-only (at adv xs) table (join adv same xs) now n (omega arith)
+        holds-maximal (at adv xs) table (join adv same xs) now n (omega arith)
         (record { order = rising-join adv same 0 xs (q .1); settled = settled-join adv same xs; labels = λ a. at-join adv a sum same exact xs }) count after

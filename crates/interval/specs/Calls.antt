@@ -30,6 +30,7 @@ abbrev pub checked : {L : Type 0} → List (Stretch L) → ℕ → ℕ → ℕ �
 checked table used start size =
     cond (eqb size 0) (Err Empty) (cond (leb (start + size) (2 ^ 40)) (cond (ready table used) (Ok tt) (Err Disorder)) (Err High))
 
+-- the refusal of the checks, or what comes after them
 abbrev pub then : {X : Type 0} → Result (Unit {0}) Refusal → Result X Refusal → Result X Refusal
 then (Ok u) r = r
 then (Err e) r = Err e
@@ -52,24 +53,27 @@ written table (Err e) = table
 abbrev pub spliced : {X : Type 0} → List X → ℕ → ℕ → ℕ → List X → List X
 spliced table used from to pieces = take from table ++ (pieces ++ drop to (take used table))
 
--- each edit, where the checks have passed, and with the checks
+-- a put, where the checks have passed, and with the checks
 abbrev pub put-goal : {L : Type 0} → List (Stretch L) → ℕ → Stretch L → Result (List (Stretch L)) Refusal
 put-goal table used s = cond (free (s .start) (stop s) (take used table)) (fitted table (put (take used table) s)) (Err Taken)
 
 abbrev pub put-answer : {L : Type 0} → List (Stretch L) → ℕ → Stretch L → Result (List (Stretch L)) Refusal
 put-answer table used s = then (checked table used (s .start) (s .length)) (put-goal table used s)
 
+-- a cut, where the checks have passed, and with the checks
 abbrev pub cut-goal : {L : Type 0} → (L → ℕ → L) → List (Stretch L) → ℕ → ℕ → ℕ → Result (List (Stretch L)) Refusal
 cut-goal advanced table used start size = fitted table (cut advanced start (start + size) (take used table))
 
 abbrev pub cut-answer : {L : Type 0} → (L → ℕ → L) → List (Stretch L) → ℕ → ℕ → ℕ → Result (List (Stretch L)) Refusal
 cut-answer advanced table used start size = then (checked table used start size) (cut-goal advanced table used start size)
 
+-- a paint, where the checks have passed, and with the checks
 abbrev pub paint-goal : {L : Type 0} → (L → ℕ → L) → List (Stretch L) → ℕ → Stretch L → Result (List (Stretch L)) Refusal
 paint-goal advanced table used s = fitted table (paint advanced (take used table) s)
 
 abbrev pub paint-answer : {L : Type 0} → (L → ℕ → L) → List (Stretch L) → ℕ → Stretch L → Result (List (Stretch L)) Refusal
 paint-answer advanced table used s = then (checked table used (s .start) (s .length)) (paint-goal advanced table used s)
 
+-- a join, which always fits
 abbrev pub join-answer : {L : Type 0} → (L → ℕ → L) → (L → L → Bool) → List (Stretch L) → ℕ → Result (List (Stretch L)) Refusal
 join-answer advanced same table used = cond (ready table used) (Ok (join advanced same (take used table))) (Err Disorder)

@@ -14,6 +14,7 @@ use Rattle.interval.specs.Stretches.{stop, holds}
 abbrev pub apart : {L : Type 0} → ℕ → ℕ → Stretch L → Bool
 apart a e s = leb (stop s) a || leb e (s .start)
 
+-- no stretch holds an address from `a` up to `e`
 abbrev pub free : {L : Type 0} → ℕ → ℕ → List (Stretch L) → Bool
 free a e [] = true
 free a e (s ∷ xs) = apart a e s && free a e xs
@@ -56,10 +57,12 @@ last-right advanced e (s ∷ t ∷ xs) = last-right advanced e (t ∷ xs)
 abbrev pub remains : {L : Type 0} → (L → ℕ → L) → ℕ → ℕ → Stretch L → List (Stretch L)
 remains advanced a e s = cond (apart a e s) (s ∷ []) (listOf (left a s) ++ listOf (right advanced e s))
 
+-- what is left of all stretches
 abbrev pub cut : {L : Type 0} → (L → ℕ → L) → ℕ → ℕ → List (Stretch L) → List (Stretch L)
 cut advanced a e [] = []
 cut advanced a e (s ∷ xs) = remains advanced a e s ++ cut advanced a e xs
 
+-- the addresses of a stretch cut out, and the stretch put there
 abbrev pub paint : {L : Type 0} → (L → ℕ → L) → List (Stretch L) → Stretch L → List (Stretch L)
 paint advanced xs s = put (cut advanced (s .start) (stop s) xs) s
 
@@ -67,13 +70,16 @@ paint advanced xs s = put (cut advanced (s .start) (stop s) xs) s
 abbrev pub runs-on : {L : Type 0} → (L → ℕ → L) → (L → L → Bool) → Stretch L → Stretch L → Bool
 runs-on advanced same x y = eqb (stop x) (y .start) && same (advanced (x .label) (x .length)) (y .label)
 
+-- one stretch in the place of two that touch
 abbrev pub merged : {L : Type 0} → Stretch L → Stretch L → Stretch L
 merged x y = record { start = x .start; length = x .length + y .length; label = x .label }
 
+-- the stretch x, with as many of the following as run on, and then the rest joined
 abbrev pub join-from : {L : Type 0} → (L → ℕ → L) → (L → L → Bool) → Stretch L → List (Stretch L) → List (Stretch L)
 join-from advanced same x [] = x ∷ []
 join-from advanced same x (y ∷ ys) = cond (runs-on advanced same x y) (join-from advanced same (merged x y) ys) (x ∷ join-from advanced same y ys)
 
+-- touching stretches that run on made one
 abbrev pub join : {L : Type 0} → (L → ℕ → L) → (L → L → Bool) → List (Stretch L) → List (Stretch L)
 join advanced same [] = []
 join advanced same (x ∷ xs) = join-from advanced same x xs

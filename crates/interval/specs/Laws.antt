@@ -10,7 +10,7 @@ use Rattle.std.specs.declared.option.Option.the-variants.{Some, None}
 use Rattle.std.specs.declared.result.Result.{Result}
 use Rattle.std.specs.declared.result.Result.the-variants.{Ok, Err}
 use Rattle.interval.specs.declared.refusals.Refusal.{Refusal}
-use Rattle.interval.specs.declared.refusals.Refusal.the-variants.{Disorder}
+use Rattle.interval.specs.declared.refusals.Refusal.the-variants.{Empty, High, Disorder, Taken, Short}
 use Rattle.interval.specs.declared.stretches.Stretch.{Stretch}
 use Rattle.interval.specs.Stretches.{rising, ready, holds, at}
 use Rattle.interval.specs.Edits.{runs-on}
@@ -48,10 +48,14 @@ Edited advanced shows was now (Err e) = now ≡ was
 abbrev pub Laid : {L : Type 0} → (L → ℕ → L) → List (Stretch L) → ℕ → Stretch L → List (Stretch L) → Result ℕ Refusal → Type 0
 Laid advanced was used s now r = Edited advanced (with-stretch advanced s (at advanced (take used was))) was now r
 
--- a put is accepted only where all its addresses were free
+-- a put is accepted only where all its addresses were free, and refused as taken only where one was not
 abbrev pub Was-free : {L : Type 0} → (L → ℕ → L) → List (Stretch L) → ℕ → Stretch L → Result ℕ Refusal → Type 0
 Was-free advanced was used s (Ok n) = (a : ℕ) → holds s a ≡ true → at advanced (take used was) a ≡ None
-Was-free advanced was used s (Err e) = Unit {0}
+Was-free advanced was used s (Err Taken) = (a : ℕ) × (holds s a ≡ true) × (at advanced (take used was) a ≡ None → ⊥)
+Was-free advanced was used s (Err Empty) = Unit {0}
+Was-free advanced was used s (Err High) = Unit {0}
+Was-free advanced was used s (Err Disorder) = Unit {0}
+Was-free advanced was used s (Err Short) = Unit {0}
 
 -- a cut leaves none of its addresses, and all others as they were
 abbrev pub Cut-out : {L : Type 0} → (L → ℕ → L) → List (Stretch L) → ℕ → ℕ → ℕ → List (Stretch L) → Result ℕ Refusal → Type 0
@@ -70,12 +74,12 @@ pub record Maximal {L : Type 0} (advanced : L → ℕ → L) (same : L → L →
   pub labels : (a : ℕ) → at advanced xs a ≡ shows a
 
 -- the first `n` records stand for what `shows` says, none runs on, and no other list is like them
-pub record Written {L : Type 0} (advanced : L → ℕ → L) (same : L → L → Bool) (shows : ℕ → Option L) (was now : List (Stretch L)) (n : ℕ) : Type 0 where
+pub record Holds-maximal {L : Type 0} (advanced : L → ℕ → L) (same : L → L → Bool) (shows : ℕ → Option L) (was now : List (Stretch L)) (n : ℕ) : Type 0 where
   pub stands : Stands advanced shows was now n
   pub settled : Settled advanced same (take n now)
   pub only : (ys : List (Stretch L)) → Maximal advanced same shows ys → ys ≡ take n now
 
 -- a join changes nothing at any address, and leaves the one list in which none runs on
 abbrev pub Joined : {L : Type 0} → (L → ℕ → L) → (L → L → Bool) → List (Stretch L) → ℕ → List (Stretch L) → Result ℕ Refusal → Type 0
-Joined advanced same was used now (Ok n) = Written advanced same (at advanced (take used was)) was now n
+Joined advanced same was used now (Ok n) = Holds-maximal advanced same (at advanced (take used was)) was now n
 Joined advanced same was used now (Err e) = now ≡ was

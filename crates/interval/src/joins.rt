@@ -4,7 +4,7 @@ ghost use mathlib.Core.Bool.{true};
 ghost use mathlib.Core.List.{_++_};
 ghost use lib.ListN.{length, take, drop};
 ghost use Rattle.interval.specs.Stretches.{ready, at};
-ghost use Rattle.interval.specs.Laws.{Written, Joined};
+ghost use Rattle.interval.specs.Laws.{Holds-maximal, Joined};
 ghost use Rattle.interval.specs.Edits.{runs-on, join as the-join};
 ghost use Rattle.interval.specs.Calls.{counted, written, join-answer};
 use crate::labels::Label;
@@ -25,7 +25,7 @@ fn join_live<L: SameLabel>(table: &mut [Stretch<L>], used: usize) -> usize
     requires { ⌜ ready (now table) used ≡ true ⌝ }
     ensures count { λ r. ⌜ r ≡ length (the-join (L·Label .advanced) (L·SameLabel .matches) (take used (now (table .entry)))) ⌝ }
     ensures after { λ r. ⌜ now (table .exit) ≡ the-join (L·Label .advanced) (L·SameLabel .matches) (take used (now (table .entry))) ++ drop r (now (table .entry)) ⌝ }
-    ensures stands { λ r. ⌜ Written (L·Label .advanced) (L·SameLabel .matches) (at (L·Label .advanced) (take used (now (table .entry)))) (now (table .entry)) (now (table .exit)) r ⌝ }
+    ensures stands { λ r. ⌜ Holds-maximal (L·Label .advanced) (L·SameLabel .matches) (at (L·Label .advanced) (take used (now (table .entry)))) (now (table .entry)) (now (table .exit)) r ⌝ }
 {
     if used == 0 {
         return 0;

@@ -5,6 +5,8 @@ ghost use denote.Ref.{now};
 ghost use Rattle.interval.specs.Stretches.{rising};
 use crate::stretches::Stretch;
 
+// The stretches rise without overlap, so that one can be found by halving. Whoever keeps the order
+// makes this view of a table without a look at its records.
 #[derive(Drop)]
 pub struct Ordered<'a, L> {
     pub live: &'a [Stretch<L>],

@@ -1,4 +1,4 @@
-// Why a call answers no.
+// Why a call answers no. Where several causes apply, the one that stands first here is the answer.
 #[derive(Clone, Copy, Debug, PartialEq, Eq)]
 pub enum Refusal {
     // a length of 0

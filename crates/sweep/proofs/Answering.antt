@@ -10,10 +10,10 @@ use Rattle.std.specs.declared.result.Result.the-variants.{Ok, Err}
 use Rattle.interval.specs.declared.refusals.Refusal.the-variants.{Short}
 use Rattle.interval.specs.declared.stretches.Stretch.{Stretch}
 use Rattle.interval.specs.Calls.{fitted, counted, written}
-use Rattle.interval.specs.Laws.{Maximal, Written}
+use Rattle.interval.specs.Laws.{Maximal, Holds-maximal}
 use Rattle.interval.proofs.Fits.{fits, too-long}
 use Rattle.interval.proofs.Only.{only}
-use Rattle.interval.proofs.Standing.{written-only}
+use Rattle.interval.proofs.Standing.{holds-maximal}
 use Rattle.sweep.specs.Laws.{below}
 use Rattle.sweep.specs.Maps.{stretches}
 use Rattle.sweep.proofs.Before.{Labels}
@@ -30,8 +30,8 @@ module _ {L : Type 0} (adv : L → ℕ → L) (same : L → L → Bool) (laws : 
     pub swept-after : now ≡ written table (fitted table xs)
     swept-after = after ∙ ap (λ k. xs ++ drop k table) count ∙ sym (ap (written table) (fits table xs room))
 
-    pub swept-stands : Written adv same (below size f) table now n
-    swept-stands = written-only adv same (laws .zero) (laws .sum) (laws .exact) (below size f) table xs now n room (maximal adv same laws f size top) count after
+    pub swept-stands : Holds-maximal adv same (below size f) table now n
+    swept-stands = holds-maximal adv same (laws .zero) (laws .sum) (laws .exact) (below size f) table xs now n room (maximal adv same laws f size top) count after
 
   module _ (over : length table < length xs) where
     pub refused-short : fitted table xs ≡ Err Short

@@ -8,7 +8,7 @@ pub returns-then-from-to : need.returns-then-from-to
 returns-then-from-to g c =
     let xs = c .args .table .now in
     let e = put-taken xs (c .args .used) (c .args .new) (c .overlap-from .result) (c .overlap-from .ensures .value) (c .pre) (c .if-from-to .taken) in
-    record { count = sym (ap counted e); after = sym (ap (written xs) e); stands = refl; free = tt }
+    record { count = sym (ap counted e); after = sym (ap (written xs) e); stands = refl; free = put-free (g .L·Label .advanced) xs xs (c .args .used) _ (c .args .new) (c .pre) (sym (ap counted e)) }
 
 pub returns : need.returns
 returns g c =
@@ -20,5 +20,5 @@ returns g c =
       count = n;
       after = t;
       stands = put-stands (g .L·Label .advanced) xs (c .splice .last .table) (c .args .used) (c .splice .result) (c .args .new) (c .pre) n t;
-      free = put-free (g .L·Label .advanced) xs (c .splice .last .table) (c .args .used) (c .splice .result) (c .args .new) n;
+      free = put-free (g .L·Label .advanced) xs (c .splice .last .table) (c .args .used) (c .splice .result) (c .args .new) (c .pre) n;
     }

@@ -1,0 +1,5 @@
+pub mod Sets
+pub mod Items
+pub mod Tables
+pub mod Texts
+pub mod Outcomes

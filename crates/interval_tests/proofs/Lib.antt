@@ -1,0 +1,2 @@
+pub mod SameOffset
+pub mod Sighted
