@@ -1,0 +1,9 @@
+mod Gap
+mod Limits
+mod Orders
+mod Promised
+mod Rounds
+mod Seeking
+mod Sound
+mod Trees
+mod Walks

@@ -1,0 +1,7 @@
+use borrow.Author.Needs.{needs}
+use Rattle.edits.specs.Edited.{edited}
+use Rattle.edits.proofs.changes.detach.Needs as need
+
+pub returns : need.returns
+unfolding edited
+returns c b = search needs

@@ -1,0 +1,3 @@
+// Tests of crate edits.
+#[cfg(test)]
+mod tests;
