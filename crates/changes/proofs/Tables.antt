@@ -31,7 +31,7 @@ line-some (Addition r) z e = let f : _≡_ {A = ℕ} 0 1 = cc in omega arith
 line-some (Removal r) z e = let f : _≡_ {A = ℕ} 0 1 = cc in omega arith
 
 -- a list of lines that begins with the lines of cs goes on from there
-pub peel : (cs ds : List Change) (rest : List ℕ) → All Writable cs → All Writable ds → text-of ds ≡ text-of cs ++ rest → (es : List Change) × (ds ≡ cs ++ es) × (text-of es ≡ rest) × All Writable es
+peel : (cs ds : List Change) (rest : List ℕ) → All Writable cs → All Writable ds → text-of ds ≡ text-of cs ++ rest → (es : List Change) × (ds ≡ cs ++ es) × (text-of es ≡ rest) × All Writable es
 peel [] ds rest a b e = (ds, refl, e, b)
 peel (c ∷ cs) [] rest a b e = absurd (line-some c (text-of cs ++ rest) (e ∙ append-assoc (line c) (text-of cs) rest))
 peel (c ∷ cs) (d ∷ ds) rest a b e =
@@ -45,7 +45,7 @@ none-left : (es : List Change) (rest : List ℕ) → NoLine rest → All Writabl
 none-left [] rest n a e = refl
 none-left (c ∷ es) rest n a e = absurd (n c (line c) (text-of es) (sym e) (refl, a .0))
 
--- what is read so far: cs, and rest to come
+-- what is read so far: `list`, and `rest` to come
 pub record Sofar (bytes rest : List ℕ) (n : ℕ) : Type 0 where
   pub list : List Change
   pub split : bytes ≡ text-of list ++ rest

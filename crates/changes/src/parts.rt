@@ -22,6 +22,7 @@ pub(crate) fn range_of(change: &Change) -> Range
     }
 }
 
+// The change with this sign and range.
 pub(crate) fn signed_range(sign: Sign, range: Range) -> Change
     ensures { λ r. ⌜ r ≡ signed sign range ⌝ }
 {

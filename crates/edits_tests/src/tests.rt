@@ -8,7 +8,10 @@ use model::kinds::Kind;
 use std::test::*;
 use tree::tree::Tree;
 
-const RAM: Backing = Backing { kind: Kind::Ram, length: 8192 };
+const RAM: Backing = Backing {
+    kind: Kind::Ram,
+    length: 8192,
+};
 
 // The highest size and offset.
 const TOP: u64 = 0x100_0000_0000;
@@ -21,19 +24,45 @@ struct Step {
 }
 
 fn container(number: u64, size: u64, answer: Result<(), Fault>) -> Step {
-    Step { edit: Edit::Container { number, size }, answer }
+    Step {
+        edit: Edit::Container { number, size },
+        answer,
+    }
 }
 
 fn leaf(number: u64, size: u64, device: u64, answer: Result<(), Fault>) -> Step {
-    Step { edit: Edit::Leaf { number, size, device }, answer }
+    Step {
+        edit: Edit::Leaf {
+            number,
+            size,
+            device,
+        },
+        answer,
+    }
 }
 
 fn alias(number: u64, target: u64, from: u64, answer: Result<(), Fault>) -> Step {
-    Step { edit: Edit::Alias { number, size: 16, target, from }, answer }
+    Step {
+        edit: Edit::Alias {
+            number,
+            size: 16,
+            target,
+            from,
+        },
+        answer,
+    }
 }
 
 fn attach(number: u64, parent: u64, answer: Result<(), Fault>) -> Step {
-    Step { edit: Edit::Attach { number, parent, offset: 0, priority: 0 }, answer }
+    Step {
+        edit: Edit::Attach {
+            number,
+            parent,
+            offset: 0,
+            priority: 0,
+        },
+        answer,
+    }
 }
 
 fn run(tree: &mut Tree, steps: &[Step]) -> Result<(), Fail> {

@@ -18,7 +18,7 @@ returns c b =
     let new : Attachment = record { child = at .child; parent = at .parent; offset = c .args .offset; priority = at .priority } in
     let others = without-child (c .args .number) (t .attachments) in (
       all-passed (edit-rows b t (Move (c .args .number) (c .args .offset)))
-        (unrefused _ _ _ _ (c .in-Continue-check-offset .ensures tt), (known t _ _ (found .0) (found .1), (unrefused _ _ _ _ (c .in-Continue-check-child .ensures tt), (ap not (c .in-Continue-attachment .ensures tt .0), tt)))),
+          (unrefused _ _ _ _ (c .in-Continue-check-offset .ensures tt), (known t _ _ (found .0) (found .1), (unrefused _ _ _ _ (c .in-Continue-check-child .ensures tt), (ap not (c .in-Continue-attachment .ensures tt .0), tt)))),
       c .with-child .ensures .model
           ∙ ap (λ (m : Model). with-order m (inserted new (m .attachments))) (c .without-child-others .ensures .model)
           ∙ ap (λ o. with-order t (again-at (c .args .offset) o others)) (sym (c .in-Continue-attachment .ensures tt .1)),

@@ -10,8 +10,7 @@ pub returns : need.returns
 unfolding edited
 returns c b =
     let t = model-of (c .args .tree .now .table) in
-    let found = c .in-Continue-region .ensures tt in
-    (
+    let found = c .in-Continue-region .ensures tt in (
       all-passed (edit-rows b t (Protect (c .args .number) (c .args .protected))) (known t _ _ (found .0) (found .1), (unrefused _ _ _ _ (c .in-Continue-check-child .ensures tt), tt)),
       c .with-region .ensures .model ∙ ap (λ g. with-region t (c .args .number) (marked (c .args .protected) g)) (sym (found .1)),
       c .with-region .ensures .sized,

@@ -1,0 +1,7 @@
+pub mod Carrying
+pub mod Fewer
+pub mod Filtering
+pub mod Members
+pub mod Promises
+pub mod Rooms
+pub mod Walking

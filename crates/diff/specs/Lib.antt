@@ -1,0 +1,5 @@
+pub mod Actions
+pub mod ChangeLists
+pub mod Laws
+pub mod Merge
+pub mod Sets

@@ -1,0 +1,4 @@
+pub mod Laws
+pub mod Maps
+pub mod Overlays
+pub mod Ranges

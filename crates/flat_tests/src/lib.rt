@@ -1,0 +1,3 @@
+// Tests of crate flat.
+#[cfg(test)]
+mod tests;
