@@ -1,14 +1,13 @@
 -- A gap that moves down through the search order.
-use mathlib.Core.Path.{_≡_, refl, sym, ap, subst, _∙_}
+use mathlib.Core.Path.{_≡_, refl, sym, ap, _∙_}
 use mathlib.Core.Bool.{true, false}
 use mathlib.Core.List.{List, [], _∷_, _++_, append-assoc}
-use mathlib.Core.Logic.{⊎-elim}
 use Prim.Native.Nat.{ℕ, zero, suc, _+_, _-_, _<_, _≤_}
 use native.Mathlib.Omega.{arith}
 use lib.Signed.{ltZ}
 use lib.ListN.{length, take, drop, getD, set, length-take, take-append-drop}
 use Rattle.std.proofs.shelf.Lists.{take-more, drop-more, length-take-le, set-at, getD-take, getD-append-left, take-take, drop-all}
-use Rattle.std.proofs.shelf.Tests.{cond-true, cond-false, cases-bool}
+use Rattle.std.proofs.shelf.Tests.{cond-true, cond-false}
 use Rattle.tree.specs.declared.regions.Attachment.{Attachment}
 use Rattle.edits.specs.Ranks.{blank, Ranked}
 use Rattle.tree.specs.Order.{inserted}

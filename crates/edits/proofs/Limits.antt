@@ -1,15 +1,18 @@
 -- The bounds of the numbers in a tree, entry by entry.
-use mathlib.Core.Path.{_≡_, refl}
-use mathlib.Core.Bool.{true, _&&_}
+use mathlib.Core.Path.{_≡_, refl, ap}
+use mathlib.Core.Bool.{true}
 use mathlib.Core.List.{List, [], _∷_}
-use Prim.Native.Nat.{ℕ, _^_, _<_, _≤_}
+use mathlib.Core.Logic.{⊎-elim}
+use Prim.Native.Nat.{ℕ, _^_, _<_}
 use native.Mathlib.Omega.{arith}
 use lib.Dec.{leb, ltb}
 use lib.ListN.{length, getD}
 use Rattle.std.specs.shelf.Lists.{All}
 use Rattle.std.proofs.shelf.Elements.{all-getD}
-use Rattle.std.proofs.shelf.Tests.{and-parts, and-from, leb-true, ltb-true, le-leb, lt-ltb}
+use Rattle.std.proofs.shelf.Lists.{getD-past}
+use Rattle.std.proofs.shelf.Tests.{and-parts, and-from, cases-lt, leb-true, ltb-true, le-leb, lt-ltb}
 use Rattle.std.specs.declared.option.Option.{Option}
+use Rattle.std.specs.declared.option.Option.the-variants.{None}
 use Rattle.tree.specs.declared.regions.Region.{Region}
 use Rattle.tree.specs.declared.regions.Attachment.{Attachment}
 use Rattle.edits.specs.Limits.{Low}
@@ -52,3 +55,7 @@ from-fine (g ∷ gs) h = and-from _ _ (h .0) (from-fine gs (h .1))
 
 pub fine-at : (gs : List (Option Region)) (i : ℕ) (d : Option Region) → bounded-regions gs ≡ true → i < length gs → Fine (getD gs i d)
 fine-at gs i d e lt = all-getD Fine gs i d lt (fine-from gs e)
+
+-- and where there is no region too
+pub fine-anywhere : (gs : List (Option Region)) (n : ℕ) → All Fine gs → Fine (getD gs n None)
+fine-anywhere gs n h = ⊎-elim (λ lt. all-getD Fine gs n None lt h) (λ le. ap bounded-region (getD-past gs n None le)) (cases-lt n (length gs))

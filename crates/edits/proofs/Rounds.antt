@@ -3,7 +3,7 @@ use mathlib.Core.Path.{_≡_, refl, sym, ap, subst, _∙_}
 use mathlib.Core.Bool.{Bool, true, false, cond, _||_, _&&_}
 use mathlib.Core.List.{List, [], _∷_, _++_, map}
 use mathlib.Core.Logic.{⊎-elim}
-use Prim.Native.Nat.{ℕ, zero, suc, _+_, _^_, _<_, _≤_}
+use Prim.Native.Nat.{ℕ, _+_, _^_, _<_, _≤_}
 use native.Mathlib.Numerals.{add-one}
 use native.Mathlib.Omega.{arith}
 use lib.Dec.{eqb, leb, ltb}
@@ -20,12 +20,12 @@ use Rattle.tree.specs.declared.regions.Body.{Body}
 use Rattle.tree.specs.declared.regions.Body.the-variants.{Container, Leaf, Alias}
 use Rattle.tree.specs.declared.regions.Region.{Region}
 use Rattle.tree.specs.declared.regions.Attachment.{Attachment}
-use Rattle.tree.specs.Bounds.{bounded-body, bounded-region}
+use Rattle.tree.specs.Bounds.{bounded-body}
 use Rattle.tree.specs.Model.{Model, under, region-at}
 use Rattle.edits.specs.Limits.{Bounded, Low}
 use Rattle.edits.specs.Marks.{Marks, marked-at, children}
 use Rattle.edits.specs.PathTests.{any, onward, targets, targets-of, below, goes-on, leads-to}
-use Rattle.edits.proofs.Limits.{low-from, Fine, fine-at}
+use Rattle.edits.proofs.Limits.{low-from, Fine, fine-from, fine-anywhere}
 
 or-assoc : (x y z : Bool) → ((x || y) || z) ≡ (x || (y || z))
 or-assoc true y z = refl
@@ -113,10 +113,8 @@ target-low (Some g) e = in-body (g .body) (and-parts (leb (g .size) (2 ^ 40)) _ 
     in-body (Alias s f) e = (ltb-true s 64 (and-parts (ltb s 64) _ e .0), tt)
 
 onward-low : (t : Model) (k : ℕ) → Bounded t → All (λ x. x < 64) (onward t k)
-onward-low t k h = all-append (λ x. x < 64) (children k (t .attachments)) (targets-of (region-at t k)) (children-low k (t .attachments) (low-from (t .attachments) (h .offsets))) (target-low (region-at t k) (at k))
-  where
-    at : (k : ℕ) → Fine (region-at t k)
-    at k = ⊎-elim (λ lt. fine-at (t .regions) k None (h .sizes) lt) (λ le. ap bounded-region (getD-past (t .regions) k None le)) (cases-lt k (length (t .regions)))
+onward-low t k h =
+    all-append (λ x. x < 64) (children k (t .attachments)) (targets-of (region-at t k)) (children-low k (t .attachments) (low-from (t .attachments) (h .offsets))) (target-low (region-at t k) (fine-anywhere (t .regions) k (fine-from (t .regions) (h .sizes))))
 
 -- what the marks say of the regions that edges lead to
 pub marks-onward : (f : ℕ → Bool) (t : Model) (was now : List Bool) → Bounded t → Marks f was → Marks (λ k. any (marked-at was) (onward t k)) now → Marks (λ k. any f (onward t k)) now

@@ -1,19 +1,19 @@
 -- An accepted edit keeps what is true of every tree.
 use mathlib.Core.Path.{_≡_, refl, sym, ap, subst, _∙_}
-use mathlib.Core.Bool.{Bool, true, false, cond, not, _&&_, _||_}
+use mathlib.Core.Bool.{Bool, true, false, cond, not}
 use mathlib.Core.List.{List, [], _∷_, _++_}
 use mathlib.Core.Logic.{_⊎_, inl, inr, ⊎-elim}
 use Prim.Native.Nat.{ℕ, _^_, _<_, _≤_}
 use native.Mathlib.Omega.{arith}
-use lib.Dec.{eqb, leb, ltb}
+use lib.Dec.{eqb, ltb}
 use lib.IntN.{ℤ}
 use lib.Signed.{ltZ}
 use lib.ListN.{length, getD, take}
 use Rattle.std.specs.Options.{isSome}
 use Rattle.std.specs.shelf.Lists.{All, kept-by}
-use Rattle.std.proofs.shelf.Elements.{all-getD, all-set}
-use Rattle.std.proofs.shelf.Lists.{getD-set-same, getD-set-other, getD-past, set-past, length-set}
-use Rattle.std.proofs.shelf.Tests.{and-from, and-parts, both-ways, or-from, or-parts, cond-true, cond-false, cond-both, cases-bool, cases-lt, cases-eq, le-leb, le-ltb, lt-ltb, ltb-false, eqb-false}
+use Rattle.std.proofs.shelf.Elements.{all-set}
+use Rattle.std.proofs.shelf.Lists.{getD-set-same, getD-set-other, set-past, length-set}
+use Rattle.std.proofs.shelf.Tests.{and-from, both-ways, or-from, or-parts, cond-true, cond-false, cond-both, cases-bool, cases-lt, cases-eq, le-leb, le-ltb, lt-ltb, ltb-false, eqb-false}
 use Rattle.std.proofs.shelf.Ways.{not-from-decides}
 use Rattle.std.specs.declared.option.Option.{Option}
 use Rattle.std.specs.declared.option.Option.the-variants.{Some, None}
@@ -25,7 +25,7 @@ use Rattle.tree.specs.declared.regions.Body.the-variants as body
 use Rattle.tree.specs.declared.regions.Region.{Region}
 use Rattle.tree.specs.declared.regions.Attachment.{Attachment}
 use Rattle.tree.specs.declared.table.Table.{Table}
-use Rattle.tree.specs.Bounds.{bounded-body, bounded-region}
+use Rattle.tree.specs.Bounds.{bounded-body}
 use Rattle.tree.specs.Model.{Model, region-at, fresh}
 use Rattle.tree.specs.Order.{has-child, inserted}
 use Rattle.tree.specs.Paths.{Holds, Edge, holds, shows}
@@ -38,8 +38,8 @@ use Rattle.edits.specs.Edited.{with-region, with-order, switched, marked, atta
 use Rattle.edits.specs.Limits.{Bounded, Low}
 use Rattle.edits.specs.PathTests.{targets, targets-of, too-long, Decided}
 use Rattle.edits.specs.Rows.{Row, first-applying, bad-size, bad-offset, no-number, no-region, defined, edit-rows}
-use Rattle.edits.proofs.Limits.{low-from, from-low, Fine, fine-from, from-fine}
-use Rattle.edits.proofs.Orders.{Well, well-kept, well-inserted, well-again, Its, its, has-without}
+use Rattle.edits.proofs.Limits.{from-low, Fine, from-fine, fine-anywhere}
+use Rattle.edits.proofs.Orders.{Well, well-kept, well-inserted, well-again, its, has-without}
 use Rattle.edits.proofs.Walks.{In, in-targets, numbered, long-decided, short-from, short-older, decided}
 
 -- Edges after a change of the order.
@@ -59,11 +59,6 @@ inserted-held r s a (c ∷ cs) h =
     cond-both (ltZ (a .priority) (c .priority)) (c ∷ inserted a cs) (a ∷ c ∷ cs) (Holds r s)
     (λ _. ⊎-elim (λ u. inl u) (λ u. inr (inserted-held r s a cs u)) h)
     (λ _. inr h)
-
-inserted-new : (a : Attachment) (cs : List Attachment) → Holds (a .parent) (a .child) (inserted a cs)
-inserted-new a [] = inl (refl, refl)
-inserted-new a (c ∷ cs) =
-    cond-both (ltZ (a .priority) (c .priority)) (c ∷ inserted a cs) (a ∷ c ∷ cs) (Holds (a .parent) (a .child)) (λ _. inr (inserted-new a cs)) (λ _. inl (refl, refl))
 
 kept-held : (p : Attachment → Bool) (r s : ℕ) (cs : List Attachment) → Holds r s (kept-by p cs) → Holds r s cs
 kept-held p r s [] h = h
@@ -210,9 +205,6 @@ fine-marked : (v : Bool) (o : Option Region) → Fine o → Fine (marked v o)
 fine-marked v None e = e
 fine-marked v (Some g) e = e
 
-fine-at : (t : Model) (n : ℕ) → All Fine (t .regions) → Fine (region-at t n)
-fine-at t n h = ⊎-elim (λ lt. all-getD Fine (t .regions) n None lt h) (λ le. ap bounded-region (getD-past (t .regions) n None le)) (cases-lt n (length (t .regions)))
-
 -- The two edits that add an edge, up to their tests of paths.
 
 pub record Grown (later : Model) (p q : ℕ) (t : Model) : Type 0 where
@@ -323,7 +315,7 @@ sound-edit b t (Move n o) ok h =
     (well-again n o (attachment-of n cs) rest (ltb-false (2 ^ 40) o (ok .0)) (its Low n cs (h .well .low)) (has-without n cs) (well-kept p cs (h .well)))
     (λ r s k. again-held r s o cs rest (attachment-of n cs) (attachment-held n cs) (λ x y. kept-held p x y cs) k)
 sound-edit b t (Switch n v) ok h =
-    same-region t n _ h (fine-switched v (region-at t n) (fine-at t n (h .fine))) (λ q i. in-targets t n q (region-at t n) refl (subst (In q) (targets-switched v (region-at t n)) i))
+    same-region t n _ h (fine-switched v (region-at t n) (fine-anywhere (t .regions) n (h .fine))) (λ q i. in-targets t n q (region-at t n) refl (subst (In q) (targets-switched v (region-at t n)) i))
 sound-edit b t (Protect n v) ok h =
-    same-region t n _ h (fine-marked v (region-at t n) (fine-at t n (h .fine))) (λ q i. in-targets t n q (region-at t n) refl (subst (In q) (targets-marked v (region-at t n)) i))
+    same-region t n _ h (fine-marked v (region-at t n) (fine-anywhere (t .regions) n (h .fine))) (λ q i. in-targets t n q (region-at t n) refl (subst (In q) (targets-marked v (region-at t n)) i))
 sound-edit b t (Remove n) ok h = same-region t n _ h refl (λ q i. absurd i)

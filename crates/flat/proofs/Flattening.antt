@@ -12,7 +12,7 @@ use Rattle.std.specs.declared.option.Option.{Option}
 use Rattle.std.specs.declared.option.Option.the-variants.{None}
 use Rattle.std.specs.declared.result.Result.{Result}
 use Rattle.std.specs.declared.result.Result.the-variants.{Ok}
-use Rattle.interval.specs.Laws.{Written}
+use Rattle.interval.specs.Laws.{Holds-maximal}
 use Rattle.interval.specs.Stretches.{rising, at}
 use Rattle.interval.proofs.Only.{only}
 use Rattle.sweep.specs.Laws.{below}
@@ -47,7 +47,7 @@ own-map m = only-map (at moved (ranges-of m)) (ranges-of m) (record { order = m 
 pub stretches-map : (f : ℕ → Option Place) (size : ℕ) → size ≤ 2 ^ 40 → Is-map (below size f) (stretches moved same-place f 0 size)
 stretches-map f size top = maximal moved same-place place-laws f size top
 
-module _ (f : ℕ → Option Place) (size : ℕ) (was now : List Range) (n : ℕ) (rows : length now ≡ 256) (w : Written moved same-place (below size f) was now n) where
+module _ (f : ℕ → Option Place) (size : ℕ) (was now : List Range) (n : ℕ) (rows : length now ≡ 256) (w : Holds-maximal moved same-place (below size f) was now n) where
   pub swept-fits : n ≤ 256
   swept-fits = let h = leb-true _ _ (and-parts (leb n (length now)) _ (w .stands .order) .0) in omega arith
 

@@ -1,6 +1,5 @@
-use mathlib.Core.Path.{_≡_, refl, sym, ap, subst, _∙_}
+use mathlib.Core.Path.{refl, sym, ap, subst, _∙_}
 use Rattle.std.proofs.shelf.Results.{err-from-errBy}
-use Rattle.std.specs.declared.option.Option.the-variants.{Some, None}
 use Rattle.tree.specs.Model.{Model, model-of}
 use Rattle.edits.specs.Edited.{edited}
 use Rattle.edits.specs.Promises.{Reordered}

@@ -1,4 +1,4 @@
-use mathlib.Core.Path.{_≡_, refl, sym, ap, _∙_}
+use mathlib.Core.Path.{refl, sym, ap, _∙_}
 use lib.ListN.{take}
 use Rattle.std.specs.declared.option.Option.the-variants.{Some}
 use Rattle.tree.specs.declared.regions.Body.the-variants as body

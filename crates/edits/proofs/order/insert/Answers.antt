@@ -1,7 +1,5 @@
-use mathlib.Core.Path.{_≡_, ap, subst, _∙_}
-use Prim.Native.Nat.{_<_, _≤_}
+use mathlib.Core.Path.{_≡_, subst, _∙_}
 use native.Mathlib.Omega.{arith}
-use lib.ListN.{set}
 use Rattle.edits.proofs.Gap.{Gap, gap-first, gap-fill, gap-down, filled}
 use Rattle.edits.proofs.order.insert.Needs as need
 
