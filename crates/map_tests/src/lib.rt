@@ -1,0 +1,3 @@
+// Large flat maps, made by edits.
+#[cfg(test)]
+mod tests;
