@@ -21,8 +21,7 @@ use Rattle.edits.specs.Edited.{attachment_of, without_child, again_at, edited}
 use Rattle.edits.specs.Limits.{Low}
 use Rattle.edits.specs.PathTests.{comes_back, too_long, Decided}
 use Rattle.edits.specs.Promises.{PathsTold, LeadsEquals, Moved, Reordered}
-use Rattle.model.specs.Rows.{Row, first_applying, told}
-use Rattle.edits.specs.Rows.{edit_rows}
+use Rattle.edits.specs.Rows.{Row, first_applying, edit_rows, told}
 use Rattle.edits.proofs.Orders.{Well, Its, its, attached_some, behind_all, sorted_behind, sorted_rest, sorted_kept}
 use Rattle.edits.proofs.Sound.{Sound, Passed, passes, stopped, passed_then, sound_edit, decided_alias, decided_attach}
 use Rattle.edits.proofs.Walks.{short_lawful}

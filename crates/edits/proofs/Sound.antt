@@ -24,8 +24,7 @@ use Rattle.edits.specs.Edges.{Short, OneMore, OneNew}
 use Rattle.edits.specs.Edited.{with_region, with_order, switched, marked, attachment_of, without_child, again_at, edited}
 use Rattle.edits.specs.Limits.{Bounded, Low}
 use Rattle.edits.specs.PathTests.{targets, targets_of, too_long, Decided}
-use Rattle.model.specs.Rows.{Row, first_applying}
-use Rattle.edits.specs.Rows.{bad_size, bad_offset, no_number, no_region, defined, edit_rows}
+use Rattle.edits.specs.Rows.{Row, first_applying, bad_size, bad_offset, no_number, no_region, defined, edit_rows}
 use Rattle.edits.proofs.Limits.{from_low, Fine, from_fine, fine_anywhere}
 use Rattle.edits.proofs.Orders.{Well, well_kept, well_inserted, well_again, its, has_without}
 use Rattle.edits.proofs.Walks.{In, in_targets, numbered, long_decided, short_from, short_older, decided}
@@ -178,7 +177,7 @@ known t n g lt e = or_from _ _ (le-ltb 63 n (omega arith)) (ap (λ o. not (is_so
 pub known_low : (t : Model) (p : ℕ) → no_region t p ≡ false → p < 64
 known_low t p e = let h = ltb-false 63 p (or_parts (no_number p) (not (defined t p)) e).0 in omega arith
 
-pub fine_new : (s : ℕ) (b : Body) → bad_size s ≡ false → bounded_body b ≡ true → Fine (Some (fresh b s))
+fine_new : (s : ℕ) (b : Body) → bad_size s ≡ false → bounded_body b ≡ true → Fine (Some (fresh b s))
 fine_new s b ok e =
     let parts = or_parts (eqb s 0) (ltb (2 ^ 40) s) ok in
     let some = eqb-false s 0 parts.0 in

@@ -12,8 +12,7 @@ use Rattle.edits.specs.declared.edit.Backing.{Backing}
 use Rattle.edits.specs.Edited.{edited, attachment_of}
 use Rattle.edits.specs.Limits.{Sized}
 use Rattle.edits.specs.PathTests.{comes_back, too_long}
-use Rattle.model.specs.Rows.{Row, first_applying}
-use Rattle.edits.specs.Rows.{no_region, edit_rows}
+use Rattle.edits.specs.Rows.{Row, first_applying, no_region, edit_rows}
 
 -- the fault f if the row applies, and else x
 abbrev pub checked : {X : Type 0} → Bool → Fault → X → Result X Fault

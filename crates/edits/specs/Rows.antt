@@ -1,8 +1,7 @@
 -- The refusals of the edits. Each edit has its rows in the order of their numbers, and the first that applies decides.
-use Rattle.std.specs.Prelude.{ℕ, ◌^◌, Bool, true, false, cond, not, ◌||◌, List, [], ◌∷◌, is_some, Some, None, Option, ◌==◌, nat_eq, nat_lt}
+use Rattle.std.specs.Prelude.{ℕ, ◌^◌, Bool, true, false, cond, not, ◌||◌, List, [], ◌∷◌, is_some, Some, None, Ok, Err, Option, Result, ◌==◌, nat_eq, nat_lt}
 use Rattle.model.specs.declared.faults.Fault.{Fault}
 use Rattle.model.specs.declared.faults.Fault.TheVariants.{BadSize, BadOffset, NoRegion, Defined, Root, NoContainer, BadDevice, InUse, Unattached, Cycle, TooDeep}
-use Rattle.model.specs.Rows.{Row, first_applying, unless}
 use Rattle.tree.specs.declared.regions.Body.TheVariants as body
 use Rattle.tree.specs.declared.regions.Region.{Region}
 use Rattle.tree.specs.declared.regions.Attachment.{Attachment}
@@ -13,6 +12,14 @@ use Rattle.edits.specs.declared.edit.Edit.TheVariants.{Container, Leaf, Alias, A
 use Rattle.edits.specs.declared.edit.Backing.{Backing}
 use Rattle.edits.specs.Edited.{edited}
 use Rattle.edits.specs.PathTests.{comes_back, too_long}
+
+-- whether the row applies, and the fault that it answers then
+abbrev pub Row : Type 0
+Row = Bool × Fault
+
+abbrev pub first_applying : List Row → Option Fault
+first_applying [] = None
+first_applying (r ∷ rs) = cond r.0 (Some r.1) (first_applying rs)
 
 abbrev pub bad_size : ℕ → Bool
 bad_size s = s == 0 || nat_lt (2 ^ 40) s
@@ -104,6 +111,15 @@ edit_rows b t (Remove n) =
 unfoldable pub edit_refusal : Backing → Model → Edit → Option Fault
 edit_refusal b t e = first_applying (edit_rows b t e)
 
+-- what an edit answers
+abbrev pub told : Option Fault → Result (Unit {0}) Fault
+told None = Ok tt
+told (Some f) = Err f
+
 -- the tree after an edit: as it was where the edit is refused
+abbrev pub unless : Option Fault → Model → Model → Model
+unless None after before = after
+unless (Some f) after before = before
+
 abbrev pub edit_result : Backing → Model → Edit → Model
 edit_result b t e = unless (edit_refusal b t e) (edited b t e) t

@@ -3,8 +3,7 @@ ghost use Rattle.std.specs.Prelude.{◌≡◌};
 ghost use Rattle.tree.specs.Model.{model_of};
 ghost use Rattle.edits.specs.Checks.{Changed};
 ghost use Rattle.edits.specs.Promises.{PathsTold, OrderAfter};
-ghost use Rattle.model.specs.Rows.{told};
-ghost use Rattle.edits.specs.Rows.{edit_refusal, edit_result};
+ghost use Rattle.edits.specs.Rows.{edit_refusal, edit_result, told};
 
 use crate::changes::{
     attach, detach, make_alias, make_container, make_leaf, move_region, protect, remove, switch,

@@ -8,7 +8,7 @@ ghost use Rattle.edits.specs.Checks.{path_rows};
 ghost use Rattle.edits.specs.Edges.{OneNew};
 ghost use Rattle.edits.specs.Marks.{Marks, marked_at, children};
 ghost use Rattle.edits.specs.PathTests.{any, comes_back, goes_on, onward, targets_of, too_long};
-ghost use Rattle.model.specs.Rows.{first_applying, told};
+ghost use Rattle.edits.specs.Rows.{first_applying, told};
 
 use crate::order::attachments;
 use model::faults::Fault;

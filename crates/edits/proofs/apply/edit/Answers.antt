@@ -3,8 +3,7 @@ use Rattle.std.proofs.lemmas.Result.{err_from_is_err_and}
 use Rattle.tree.specs.Model.{Model, model_of}
 use Rattle.edits.specs.Edited.{edited}
 use Rattle.edits.specs.Promises.{Reordered}
-use Rattle.model.specs.Rows.{told, unless}
-use Rattle.edits.specs.Rows.{edit_rows, edit_refusal}
+use Rattle.edits.specs.Rows.{edit_rows, edit_refusal, told, unless}
 use Rattle.edits.proofs.Limits.{from_low, from_fine}
 use Rattle.edits.proofs.Promised.{paths_told, reordered}
 use Rattle.edits.proofs.Sound.{Sound, passes, sound_edit}

@@ -7,8 +7,7 @@ use Rattle.tree.specs.Order.{inserted}
 use Rattle.edits.specs.declared.edit.Backing.{Backing}
 use Rattle.edits.specs.declared.edit.Edit.TheVariants.{Attach}
 use Rattle.edits.specs.Edited.{with_order, edited}
-use Rattle.model.specs.Rows.{Row}
-use Rattle.edits.specs.Rows.{edit_rows, is_container}
+use Rattle.edits.specs.Rows.{Row, edit_rows, is_container}
 use Rattle.edits.proofs.Sound.{Passed, unrefused, refused, passed_then, known, tested_changed}
 use Rattle.edits.proofs.changes.attach.Goals as goal
 use Rattle.edits.proofs.changes.attach.Goals.{In-ok-check-container}
