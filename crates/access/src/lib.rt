@@ -1,1 +1,2 @@
 // Reads and writes of guest addresses, by a flat map.
+#![tactic(auto)]

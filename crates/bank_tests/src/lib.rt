@@ -1,4 +1,6 @@
 // Examples of banks at the edges of their devices.
+#![tactic(auto)]
+
 #[cfg(test)]
 mod tests {
     use bank::bank::{Bank, PastEnd};

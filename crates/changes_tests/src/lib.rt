@@ -1,4 +1,6 @@
 // Examples of change lines.
+#![tactic(auto)]
+
 #[cfg(test)]
 mod tests {
     use changes::read::read_changes;

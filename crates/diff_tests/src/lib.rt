@@ -1,4 +1,6 @@
 // Examples of change lists.
+#![tactic(auto)]
+
 #[cfg(test)]
 mod tests {
     use diff::change_lists::change_list;

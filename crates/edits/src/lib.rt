@@ -1,4 +1,6 @@
 // Edits of a tree of regions.
+#![tactic(auto)]
+
 pub mod apply;
 mod changes;
 mod checks;

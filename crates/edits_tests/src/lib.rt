@@ -1,3 +1,5 @@
 // Tests of crate edits.
+#![tactic(auto)]
+
 #[cfg(test)]
 mod tests;

@@ -1,3 +1,5 @@
 // Tests of crate flat.
+#![tactic(auto)]
+
 #[cfg(test)]
 mod tests;

@@ -1,4 +1,6 @@
 // An interval map over the caller's table, for every label that advances.
+#![tactic(auto)]
+
 pub mod edits;
 pub mod find;
 pub mod joins;

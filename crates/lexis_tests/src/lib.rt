@@ -1,4 +1,6 @@
 // Examples of reading and writing lines.
+#![tactic(auto)]
+
 mod switch;
 
 #[cfg(test)]

@@ -1,4 +1,6 @@
 // Examples of listeners at the edges of their rules.
+#![tactic(auto)]
+
 #[cfg(test)]
 mod tests {
     use interval::stretches::Stretch;

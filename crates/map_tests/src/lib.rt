@@ -1,3 +1,5 @@
 // Large flat maps, made by edits.
+#![tactic(auto)]
+
 #[cfg(test)]
 mod tests;

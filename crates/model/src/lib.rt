@@ -1,4 +1,6 @@
 // The words that all layers share: kinds, places, ranges, changes and faults.
+#![tactic(auto)]
+
 pub mod changes;
 pub mod faults;
 pub mod kinds;

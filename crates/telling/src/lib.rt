@@ -1,2 +1,4 @@
 // Telling a listener of changes.
+#![tactic(auto)]
+
 pub mod tell;

@@ -1,4 +1,6 @@
 // The tree of regions, and the search in it.
+#![tactic(auto)]
+
 pub mod probes;
 pub mod queries;
 pub mod regions;

@@ -1,3 +1,5 @@
 // Tests of crate tree.
+#![tactic(auto)]
+
 #[cfg(test)]
 mod tests;

@@ -1,4 +1,6 @@
 // The whole maps of the worked windows.
+#![tactic(auto)]
+
 ghost use Rattle.std.specs.Prelude.{◌≡◌, length};
 ghost use Rattle.window_maps.specs.Maps.{window_maps, WindowsMap};
 

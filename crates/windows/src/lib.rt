@@ -1,4 +1,6 @@
 // Worked windows: small trees, and what the search finds in them.
+#![tactic(auto)]
+
 ghost use Rattle.std.specs.Prelude.{◌≡◌, length};
 ghost use Rattle.windows.specs.Windows.{windows, WindowsShow};
 

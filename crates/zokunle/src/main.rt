@@ -1,4 +1,6 @@
 // Reads a change list from standard input, carries it out from the empty map, and shows what it did.
+#![tactic(auto)]
+
 use anyhow::anyhow;
 use changes::read::read_changes;
 use changes::write::write_changes;

@@ -2,21 +2,21 @@ use Rattle.std.proofs.Common.{◌+◌, ◌<◌, length, ◌∙◌, arith}
 use Rattle.std.proofs.lemmas.Option.{slice_get-get_or}
 use Rattle.bank.proofs.Transfers.{fill_more, fill_all, loaded_fills}
 use Rattle.bank.proofs.transfer.load.Goals as goal
-use Rattle.bank.proofs.transfer.load.Goals.{in-Some, in-default}
+use Rattle.bank.proofs.transfer.load.Goals.{in-Some, in_default}
 
 pub loop-i-preserved : goal.loop-i-preserved
 loop-i-preserved g c =
     let d = g.B.Bank.devices c.args.bank.now c.args.device in
     let o = c.args.offset in
     let i = c.loop-i.i in
-    let near : o + i < length d.bytes = omega (arith, c.run-length-count.ensures) in
+    let near : o + i < length d.bytes = omega (arith, c.run_length-count.ensures) in
     elim c.match-read.branch [
-      | in-Some w ↦ w.out-is ∙ fill_more d o i w.in-Some.byte c.args.out.now c.loop-i.out near (omega (arith, c.run-length-count.ensures)) w.in-Some.ensures c.loop-i.invariant
-      | in-default w ↦ absurd (w.in-default.not-Some _ (c.read.ensures ∙ slice_get-get_or d.bytes (o + i) 0 near))
+      | in-Some w ↦ w.out-is ∙ fill_more d o i w.in-Some.byte c.args.out.now c.loop-i.out near (omega (arith, c.run_length-count.ensures)) w.in-Some.ensures c.loop-i.invariant
+      | in_default w ↦ absurd (w.in_default.not-Some _ (c.read.ensures ∙ slice_get-get_or d.bytes (o + i) 0 near))
     ]
 
 pub returns : goal.returns
 returns g c =
     let d = g.B.Bank.devices c.args.bank.now c.args.device in
-    let after = fill_all d c.args.offset _ _ c.args.out.now _ c.loop-i-test.false c.loop-i.auto.i-end c.run-length-count.ensures c.loop-i.invariant in
-    record { answer = c.run-length-count.ensures; after = after; fills = loaded_fills _ _ _ _ after }
+    let after = fill_all d c.args.offset _ _ c.args.out.now _ c.loop-i-test.false c.loop-i.auto.i-end c.run_length-count.ensures c.loop-i.invariant in
+    record { answer = c.run_length-count.ensures; after = after; fills = loaded_fills _ _ _ _ after }

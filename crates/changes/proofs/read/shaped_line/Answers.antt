@@ -8,7 +8,7 @@ use Rattle.changes.proofs.read.shaped_line.Goals as goal
 
 pub returns : goal.returns
 returns c =
-    subst (λ r. Moves Shaped c.args.reader.now r c.literal-9.new.self) (sym c.signed-range.ensures) (items_move _ _ _
+    subst (λ r. Moves Shaped c.args.reader.now r c.literal-9.new.self) (sym c.signed_range.ensures) (items_move _ _ _
     (on_literal c.literal.ensures (on_choice sign_set.apart c.choice-sign.ensures.moves
     (on_literal c.literal-2.ensures (on_number c.number-start.ensures.moves
     (on_literal c.literal-3.ensures (on_number c.number-length.ensures.moves

@@ -5,10 +5,10 @@ use Rattle.changes.proofs.read.store_changes.Goals as goal
 pub loop-n-init : goal.loop-n-init
 loop-n-init c = (sofar_none _, omega arith, refl)
 
-pub returns-in-default : goal.returns-in-default
-returns-in-default c = λ ds s short.
+pub returns-in_default : goal.returns-in_default
+returns-in_default c = λ ds s short.
     let i = c.loop-n.invariant in
-    let t = stopped _ _ _ i.0 c.in-default.ensures ds s in
+    let t = stopped _ _ _ i.0 c.in_default.ensures ds s in
     as_stored _ _ ds _ _ i.2 i.0.count t.0
 
 pub loop-n-preserved : goal.loop-n-preserved

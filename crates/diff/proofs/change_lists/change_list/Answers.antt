@@ -5,20 +5,20 @@ use Rattle.diff.proofs.change_lists.change_list.Goals as goal
 
 pub returns-then-not-fit : goal.returns-then-not-fit
 returns-then-not-fit c =
-    let no = refused c.args.old.now.live.now c.args.new.now.live.now _ c.args.list.now c.count-changes-counts.ensures (sym c.if-not-fit.ensures) in
+    let no = refused c.args.old.now.live.now c.args.new.now.live.now _ c.args.list.now c.count_changes-counts.ensures (sym c.if-not-fit.ensures) in
     record { answer = no.0; after = no.1; counts = tt; replays = tt; fewest = tt; successive = tt; kinds = tt; runs = runs_replay; rule = one_rule }
 
-pub write-changes-requires : goal.write-changes-requires
-write-changes-requires c = room c.args.old.now.live.now c.args.new.now.live.now _ c.args.list.now c.count-changes-counts.ensures (sym c.if-not-fit.ensures)
+pub write_changes-requires : goal.write_changes-requires
+write_changes-requires c = room c.args.old.now.live.now c.args.new.now.live.now _ c.args.list.now c.count_changes-counts.ensures (sym c.if-not-fit.ensures)
 
 pub returns : goal.returns
 returns c =
     let old = c.args.old.now.live.now in
     let new = c.args.new.now.live.now in
     let was = c.args.list.now in
-    let counts = c.count-changes-counts.ensures in
+    let counts = c.count_changes-counts.ensures in
     let fit = sym c.if-not-fit.ensures in
-    let wrote = c.write-changes.ensures in
+    let wrote = c.write_changes.ensures in
     let laws = kept_promises old new _ was counts _ fit wrote c.args.old.now.rises c.args.new.now.rises in
     record {
       answer = answered old new _ was counts _ fit wrote;

@@ -8,8 +8,8 @@ use Rattle.diff_tests.proofs.tests.between.Goals as goal
 whole : (xs : List Range) → true ≡ ready xs (length xs) → rising 0 xs ≡ true
 whole xs e = subst (λ l. rising 0 l ≡ true) (take_all (length xs) xs (omega arith)) (and_parts (leb (length xs) (length xs)) _ (sym e)).1
 
-pub invariant-of-change-list : goal.invariant-of-change-list
-invariant-of-change-list c = (whole c.args.old.now c.if-not-is-ready.ensures, tt)
+pub invariant_of-change_list : goal.invariant_of-change_list
+invariant_of-change_list c = (whole c.args.old.now c.if-not-is_ready.ensures, tt)
 
-pub invariant-of-change-list-2 : goal.invariant-of-change-list-2
-invariant-of-change-list-2 c = (whole c.args.new.now c.if-not-is-ready-2.ensures, tt)
+pub invariant_of-change_list-2 : goal.invariant_of-change_list-2
+invariant_of-change_list-2 c = (whole c.args.new.now c.if-not-is_ready-2.ensures, tt)

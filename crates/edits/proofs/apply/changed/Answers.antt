@@ -14,10 +14,10 @@ any_device : (b : Backing) (t : Model) (e f : Edit) (r : Result Table Fault) →
 any_device b t e f r is h = subst (λ x. Changed b t x r) (sym is) (h b)
 
 pub returns-in-Container : goal.returns-in-Container
-returns-in-Container c = any_device _ _ _ _ _ c.in-Container.is c.make-container.ensures
+returns-in-Container c = any_device _ _ _ _ _ c.in-Container.is c.make_container.ensures
 
 pub returns-in-Alias : goal.returns-in-Alias
-returns-in-Alias c = any_device _ _ _ _ _ c.in-Alias.is c.make-alias.ensures
+returns-in-Alias c = any_device _ _ _ _ _ c.in-Alias.is c.make_alias.ensures
 
 pub returns-in-Attach : goal.returns-in-Attach
 returns-in-Attach c =
@@ -29,7 +29,7 @@ pub returns-in-Detach : goal.returns-in-Detach
 returns-in-Detach c = any_device _ _ _ _ _ c.in-Detach.is c.detach.ensures
 
 pub returns-in-Move : goal.returns-in-Move
-returns-in-Move c = any_device _ _ _ _ _ c.in-Move.is c.move-region.ensures
+returns-in-Move c = any_device _ _ _ _ _ c.in-Move.is c.move_region.ensures
 
 pub returns-in-Switch : goal.returns-in-Switch
 returns-in-Switch c = any_device _ _ _ _ _ c.in-Switch.is c.switch.ensures

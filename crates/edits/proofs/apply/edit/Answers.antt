@@ -10,12 +10,12 @@ use Rattle.edits.proofs.Sound.{Sound, passes, sound_edit}
 use Rattle.edits.proofs.Trees.{sound_tree}
 use Rattle.edits.proofs.apply.edit.Goals as goal
 
-pub returns-in-err-table : goal.returns-in-err-table
+pub returns-in_err-table : goal.returns-in_err-table
 unfolding edit_refusal
-returns-in-err-table c =
+returns-in_err-table c =
     let p = err_from_is_err_and c.from-residual.result c.from-residual.ensures.1 in
     let t = model_of c.args.tree.now.table in
-    let h = c.in-err-table.ensures in
+    let h = c.in_err-table.ensures in
     rw (p.1, p.2) (record {
       answer = ap told (sym h);
       after = ap (λ q. unless q (edited c.args.backing t c.args.edit) t) (sym h);
@@ -23,10 +23,10 @@ returns-in-err-table c =
       order = refl;
     })
 
-pub invariant-of-tree : goal.invariant-of-tree
-invariant-of-tree c =
+pub invariant_of-tree : goal.invariant_of-tree
+invariant_of-tree c =
     let t = model_of c.args.tree.now.table in
-    let h = c.in-ok-table.ensures in
+    let h = c.in_ok-table.ensures in
     let e = c.args.edit in
     let sound = subst Sound (sym h.1) (sound_edit c.args.backing t e (passes (edit_rows c.args.backing t e) h.0) (sound_tree c.args.tree.now)) in
     (h.2.numbered, (h.2.rows, (h.2.fits, (from_fine _ sound.fine, (from_low _ sound.well.low, (sound.well.single, (sound.well.ranked, (sound.short, tt))))))))
@@ -37,7 +37,7 @@ returns c =
     let t = model_of c.args.tree.now.table in
     let e = c.args.edit in
     let b = c.args.backing in
-    let h = c.in-ok-table.ensures in
+    let h = c.in_ok-table.ensures in
     let sound = sound_tree c.args.tree.now in
     record {
       answer = ap told (sym h.0);

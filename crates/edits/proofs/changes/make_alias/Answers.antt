@@ -12,20 +12,20 @@ unfolding edited
 returns c b =
     let t = model_of c.args.tree.now.table in
     let e = Alias c.args.number c.args.size c.args.target c.args.from in
-    let target = c.in-ok-check-region.ensures in
-    let same = checked_is _ _ _ _ c.in-ok-index.ensures in
+    let target = c.in_ok-check_region.ensures in
+    let same = checked_is _ _ _ _ c.in_ok-index.ensures in
     tested_changed b t e (take 5 (edit_rows b t e)) _ _ refl (
-      unrefused _ _ _ _ c.in-ok-check-size.ensures,
+      unrefused _ _ _ _ c.in_ok-check_size.ensures,
       (
-        unrefused _ _ _ _ c.in-ok-check-offset.ensures,
+        unrefused _ _ _ _ c.in_ok-check_offset.ensures,
         (
-          unrefused _ _ _ _ c.in-ok-index.ensures,
+          unrefused _ _ _ _ c.in_ok-index.ensures,
           (
             known t _ _ target.0 target.1,
-            (ap (defined t) (sym same) ∙ unrefused _ _ _ _ c.in-ok-check-free.ensures, tt),
+            (ap (defined t) (sym same) ∙ unrefused _ _ _ _ c.in_ok-check_free.ensures, tt),
           ),
         ),
       ),
     )
     (ap (λ n. with_region t n (Some (fresh (body.Alias c.args.target c.args.from) c.args.size))) same)
-    c.with-alias.ensures
+    c.with_alias.ensures

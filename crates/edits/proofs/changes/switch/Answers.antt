@@ -10,8 +10,8 @@ pub returns : goal.returns
 unfolding edited
 returns c b =
     let t = model_of c.args.tree.now.table in
-    let found = c.in-ok-region.ensures in (
-      all_passed (edit_rows b t (Switch c.args.number c.args.on)) (known t _ _ found.0 found.1, (unrefused _ _ _ _ c.in-ok-check-child.ensures, tt)),
+    let found = c.in_ok-region.ensures in (
+      all_passed (edit_rows b t (Switch c.args.number c.args.on)) (known t _ _ found.0 found.1, (unrefused _ _ _ _ c.in_ok-check_child.ensures, tt)),
       c.with_region.ensures.model ∙ ap (λ g. with_region t c.args.number (switched c.args.on g)) (sym found.1),
       c.with_region.ensures.sized,
     )

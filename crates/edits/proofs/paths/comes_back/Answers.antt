@@ -10,11 +10,11 @@ use Rattle.edits.proofs.paths.comes_back.Goals as goal
 pub loop-init : goal.loop-init
 loop-init c = leads_first (model_of c.args.table.now) c.args.from
 
-pub step-back-marked-requires : goal.step-back-marked-requires
-step-back-marked-requires c = record { sized = c.requires.sized; bounded = c.requires.bounded; long = length-set _ _ _ ∙ c.loop.invariant.long }
+pub step_back-marked-requires : goal.step_back-marked-requires
+step_back-marked-requires c = record { sized = c.requires.sized; bounded = c.requires.bounded; long = length-set _ _ _ ∙ c.loop.invariant.long }
 
 pub loop-preserved : goal.loop-preserved
-loop-preserved c = leads_more (model_of c.args.table.now) c.loop.counter c.args.from c.loop.marked _ c.requires.low c.requires.bounded c.loop.invariant c.step-back-marked.ensures
+loop-preserved c = leads_more (model_of c.args.table.now) c.loop.counter c.args.from c.loop.marked _ c.requires.low c.requires.bounded c.loop.invariant c.step_back-marked.ensures
 
 pub returns : goal.returns
 returns c =

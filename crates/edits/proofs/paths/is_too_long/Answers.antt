@@ -8,4 +8,4 @@ use Rattle.std.proofs.lemmas.Bool.Decides.{Decides-eqb}
 
 pub returns : goal.returns
 unfolding too_long
-returns c = any_marked (goes_on (model_of c.args.table.now) 9) _ _ c.starts-of.ensures (contains_decides eqb Decides-eqb _ true _ c.contains.ensures.cases)
+returns c = any_marked (goes_on (model_of c.args.table.now) 9) _ _ c.starts_of.ensures (contains_decides eqb Decides-eqb _ true _ c.contains.ensures.cases)

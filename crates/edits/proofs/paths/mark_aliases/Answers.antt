@@ -4,8 +4,8 @@ use Rattle.edits.proofs.Limits.{fine_at}
 use Rattle.edits.proofs.Rounds.{aliases_marked}
 use Rattle.edits.proofs.paths.mark_aliases.Goals as goal
 
-pub shows-marked-requires : goal.shows-marked-requires
-shows-marked-requires c = record { low = fine_at c.args.regions.now c.loop-i.i None c.requires.low c.loop-i-test.true; long = c.requires.long }
+pub shows_marked-requires : goal.shows_marked-requires
+shows_marked-requires c = record { low = fine_at c.args.regions.now c.loop-i.i None c.requires.low c.loop-i-test.true; long = c.requires.long }
 
 pub returns : goal.returns
 returns c =

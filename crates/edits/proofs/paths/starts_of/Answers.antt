@@ -5,8 +5,8 @@ use Rattle.edits.proofs.paths.starts_of.Goals as goal
 pub loop-init : goal.loop-init
 loop-init c = goes_first (model_of c.args.table.now)
 
-pub step-back-marked-requires : goal.step-back-marked-requires
-step-back-marked-requires c = record { sized = c.requires.sized; bounded = c.requires.bounded; long = c.loop.invariant.long }
+pub step_back-marked-requires : goal.step_back-marked-requires
+step_back-marked-requires c = record { sized = c.requires.sized; bounded = c.requires.bounded; long = c.loop.invariant.long }
 
 pub loop-preserved : goal.loop-preserved
-loop-preserved c = goes_more (model_of c.args.table.now) c.loop.counter _ _ c.requires.bounded c.loop.invariant c.step-back-marked.ensures
+loop-preserved c = goes_more (model_of c.args.table.now) c.loop.counter _ _ c.requires.bounded c.loop.invariant c.step_back-marked.ensures

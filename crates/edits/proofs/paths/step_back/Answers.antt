@@ -7,8 +7,8 @@ use Rattle.edits.proofs.paths.step_back.Goals as goal
 
 pub returns : goal.returns
 returns c =
-    let long : length c.mark-aliases.new.before ≡ 64 = omega arith in
+    let long : length c.mark_aliases.new.before ≡ 64 = omega arith in
     let p = marked_at c.args.marked.now in
-    stepped p (model_of c.args.table.now) c.mark-parents.new.before c.mark-aliases.new.before long
-    (λ k. c.mark-parents.ensures k ∙ ap (λ cs. marked_at (replicate 64 false) k || any p (children k cs)) c.attachments.ensures)
-    c.mark-aliases.ensures
+    stepped p (model_of c.args.table.now) c.mark_parents.new.before c.mark_aliases.new.before long
+    (λ k. c.mark_parents.ensures k ∙ ap (λ cs. marked_at (replicate 64 false) k || any p (children k cs)) c.attachments.ensures)
+    c.mark_aliases.ensures

@@ -9,11 +9,11 @@ pub returns : goal.returns
 returns c =
     let le : c.args.table.attached ≤ length c.args.table.order = omega arith in
     let before : length (take c.args.table.attached c.args.table.order) ≡ c.args.table.attached = length-take-le _ _ le in
-    let in' : c.take-out.result ≤ length c.take-out.new.order = omega arith in
-    let after : length (take c.take-out.result c.take-out.new.order) ≡ c.take-out.result = length-take-le _ _ in' in
-    let same = ap length c.take-out.ensures.others in
+    let in' : c.take_out.result ≤ length c.take_out.new.order = omega arith in
+    let after : length (take c.take_out.result c.take_out.new.order) ≡ c.take_out.result = length-take-le _ _ in' in
+    let same = ap length c.take_out.ensures.others in
     record {
-      model = ap (with_order (model_of c.args.table)) c.take-out.ensures.others;
+      model = ap (with_order (model_of c.args.table)) c.take_out.ensures.others;
       sized = search rules;
       fewer = λ e. let lt : length (without_child c.args.number (take c.args.table.attached c.args.table.order)) < length (take c.args.table.attached c.args.table.order) = fewer_without _ _ e in omega arith;
     }

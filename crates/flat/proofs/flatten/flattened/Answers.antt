@@ -1,8 +1,8 @@
 use Rattle.flat.proofs.Flattening.{swept_fits, swept_rises, swept_settled, swept_only, swept_is}
 use Rattle.flat.proofs.flatten.flattened.Goals as goal
 
-pub invariant-of-result : goal.invariant-of-result
-invariant-of-result g c =
+pub invariant_of-result : goal.invariant_of-result
+invariant_of-result g c =
     let f = g.S.Source.shows c.args.source.now in
     let w = c.in-Ok.ensures.stands.1 in
     let rows = c.sweep.auto.table in

@@ -7,14 +7,14 @@ pub returns-in-len1 : goal.returns-in-len1
 returns-in-len1 g c =
     let held = between c.args.from c.args.to c.args.table.now in
     record {
-      before = c.left-of.ensures ∙ first_is c.args.start held c.only-item.result (omega (arith, ltb-true, ltb-false)) c.only-item.is;
-      behind = c.right-of.ensures ∙ last_is g.L.Label.advanced c.args.stop held c.only-item.result 0 (omega (arith, ltb-true, ltb-false)) c.only-item.is;
+      before = c.left_of.ensures ∙ first_is c.args.start held c.only-item.result (omega (arith, ltb-true, ltb-false)) c.only-item.is;
+      behind = c.right_of.ensures ∙ last_is g.L.Label.advanced c.args.stop held c.only-item.result 0 (omega (arith, ltb-true, ltb-false)) c.only-item.is;
     }
 
 pub returns-in-len2-up : goal.returns-in-len2-up
 returns-in-len2-up g c =
     let held = between c.args.from c.args.to c.args.table.now in
     record {
-      before = c.left-of-in-len2-up.ensures ∙ first_is c.args.start held c.first-item.result (omega (arith, ltb-true, ltb-false)) c.first-item.is;
-      behind = c.right-of-in-len2-up.ensures ∙ last_is g.L.Label.advanced c.args.stop held c.last-item.result _ (omega (arith, ltb-true, ltb-false)) c.last-item.is;
+      before = c.left_of-in-len2-up.ensures ∙ first_is c.args.start held c.first-item.result (omega (arith, ltb-true, ltb-false)) c.first-item.is;
+      behind = c.right_of-in-len2-up.ensures ∙ last_is g.L.Label.advanced c.args.stop held c.last-item.result _ (omega (arith, ltb-true, ltb-false)) c.last-item.is;
     }

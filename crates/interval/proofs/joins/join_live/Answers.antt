@@ -3,22 +3,22 @@ use Rattle.interval.specs.Edits.{join}
 use Rattle.interval.proofs.Joining.{carried, joined_start, joined_merge, joined_keep, joined_count, joined_end, merged_fits}
 use Rattle.interval.proofs.Standing.{join_stands}
 use Rattle.interval.proofs.joins.join_live.Goals as goal
-use Rattle.interval.proofs.joins.join_live.Goals.{then-runs-onto, else-runs-onto}
+use Rattle.interval.proofs.joins.join_live.Goals.{then-runs_onto, else-runs_onto}
 
 pub loop-k-init : goal.loop-k-init
 loop-k-init g c = joined_start g.L.Label.advanced g.L.SameLabel.matches c.args.table.now c.args.used c.requires c.index-table-0.result (omega (arith, c.if-used-eq0.false)) c.index-table-0.is
 
 pub loop-k-preserved : goal.loop-k-preserved
 loop-k-preserved g c =
-    elim c.if-runs-onto.branch [
-      | then-runs-onto w ↦ carried g.L.Label.advanced g.L.SameLabel.matches c.args.table.now c.args.used _ _ _ _ _ _ _ w.done-is w.last-is w.table-is
-          (joined_merge g.L.Label.advanced g.L.SameLabel.matches c.args.table.now c.args.used c.requires _ _ c.loop-k.last c.loop-k.table c.loop-k.auto.table c.loop-k.invariant c.loop-k-test.true c.index-table-k.result c.index-table-k.is (sym w.if-runs-onto.ensures))
-      | else-runs-onto w ↦ carried g.L.Label.advanced g.L.SameLabel.matches c.args.table.now c.args.used _ _ _ _ _ _ _ w.done-is w.last-is w.table-is
-          (joined_keep g.L.Label.advanced g.L.SameLabel.matches c.args.table.now c.args.used c.requires _ _ c.loop-k.last c.loop-k.table c.loop-k.auto.table c.loop-k.invariant c.loop-k-test.true c.index-table-k.result c.index-table-k.is (sym w.if-runs-onto.ensures))
+    elim c.if-runs_onto.branch [
+      | then-runs_onto w ↦ carried g.L.Label.advanced g.L.SameLabel.matches c.args.table.now c.args.used _ _ _ _ _ _ _ w.done-is w.last-is w.table-is
+          (joined_merge g.L.Label.advanced g.L.SameLabel.matches c.args.table.now c.args.used c.requires _ _ c.loop-k.last c.loop-k.table c.loop-k.auto.table c.loop-k.invariant c.loop-k-test.true c.index-table-k.result c.index-table-k.is (sym w.if-runs_onto.ensures))
+      | else-runs_onto w ↦ carried g.L.Label.advanced g.L.SameLabel.matches c.args.table.now c.args.used _ _ _ _ _ _ _ w.done-is w.last-is w.table-is
+          (joined_keep g.L.Label.advanced g.L.SameLabel.matches c.args.table.now c.args.used c.requires _ _ c.loop-k.last c.loop-k.table c.loop-k.auto.table c.loop-k.invariant c.loop-k-test.true c.index-table-k.result c.index-table-k.is (sym w.if-runs_onto.ensures))
     ]
 
-pub overflow-add-last : goal.overflow-add-last
-overflow-add-last g c =
+pub overflow_add-last : goal.overflow_add-last
+overflow_add-last g c =
     let sum : c.loop-k.last.length + c.index-table-k.result.length < 2 ^ 64 = merged_fits g.L.Label.advanced g.L.SameLabel.matches c.args.table.now c.args.used c.requires _ _ c.loop-k.last c.loop-k.table c.loop-k.auto.table c.loop-k.invariant c.loop-k-test.true c.index-table-k.result c.index-table-k.is in
     record { fits = sum }
 

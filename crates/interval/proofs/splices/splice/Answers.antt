@@ -11,7 +11,7 @@ returns-then-pieces-table g c =
     let xs = c.args.table.now in
     let ps = option_to_list c.args.left ++ option_to_list c.args.middle ++ option_to_list c.args.right in
     let n = length_three (option_to_list c.args.left) (option_to_list c.args.middle) (option_to_list c.args.right) in
-    let k = length_spliced xs ps c.args.used c.args.from c.args.to c.requires.from-within c.requires.to-within c.requires.used-within in
+    let k = length_spliced xs ps c.args.used c.args.from c.args.to c.requires.from_within c.requires.to_within c.requires.used_within in
     let e = too_long xs (spliced xs c.args.used c.args.from c.args.to ps) (omega arith) in
     record { count = sym (ap counted e); after = sym (ap (written xs) e) }
 
@@ -26,14 +26,14 @@ returns g c =
     let to = c.args.to in
     let used = c.args.used in
     let n = length_three l m r in
-    let k = length_spliced xs ps used from to c.requires.from-within c.requires.to-within c.requires.used-within in
+    let k = length_spliced xs ps used from to c.requires.from_within c.requires.to_within c.requires.used_within in
     let e = fits xs (spliced xs used from to ps) (omega arith) in
-    let same : c.count-of.result + c.count-of-2.result + c.count-of-3.result ≡ length ps = omega arith in
-    let moved : c.copy-within.new.self ≡ paste xs (from + length ps) (drop to xs) (used - to) = c.copy-within.ensures.after ∙ ap (λ z. paste xs (from + z) (drop to xs) (used - to)) same in
-    let put : c.write.new.table ≡ paste c.copy-within.new.self from ps (length ps)
-    = paste_three c.copy-within.new.self l m r c.write-at.new.table c.write-at-2.new.table c.write.new.table from c.write-at.result c.write-at-2.result
-    (omega (arith, c.copy-within.ensures.len)) c.write-at.ensures.after c.write-at.ensures.next c.write-at-2.ensures.after c.write-at-2.ensures.next c.write.ensures.after in
+    let same : c.count_of.result + c.count_of-2.result + c.count_of-3.result ≡ length ps = omega arith in
+    let moved : c.copy_within.new.self ≡ paste xs (from + length ps) (drop to xs) (used - to) = c.copy_within.ensures.after ∙ ap (λ z. paste xs (from + z) (drop to xs) (used - to)) same in
+    let put : c.write.new.table ≡ paste c.copy_within.new.self from ps (length ps)
+    = paste_three c.copy_within.new.self l m r c.write-at.new.table c.write-at-2.new.table c.write.new.table from c.write-at.result c.write-at-2.result
+    (omega (arith, c.copy_within.ensures.len)) c.write-at.ensures.after c.write-at.ensures.next c.write-at-2.ensures.after c.write-at-2.ensures.next c.write.ensures.after in
     record {
       count = ap Ok (omega arith) ∙ sym (ap counted e);
-      after = put ∙ ap (λ z. paste z from ps (length ps)) moved ∙ spliced_is xs ps used from to c.requires.from-within c.requires.to-within c.requires.used-within (omega arith) ∙ sym (ap (written xs) e);
+      after = put ∙ ap (λ z. paste z from ps (length ps)) moved ∙ spliced_is xs ps used from to c.requires.from_within c.requires.to_within c.requires.used_within (omega arith) ∙ sym (ap (written xs) e);
     }

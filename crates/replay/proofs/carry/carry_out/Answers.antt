@@ -7,5 +7,5 @@ returns c =
     record {
       answer = search rules;
       after = search rules;
-      order = copied_order _ c.args.table.now _ _ c.in-ok-live.ensures.1 (search rules) c.copy-front.ensures;
+      order = copied_order _ c.args.table.now _ _ c.in_ok-live.ensures.1 (search rules) c.copy_front.ensures;
     }

@@ -13,9 +13,9 @@ bounds-table-done g c =
 pub loop-walk-preserved : goal.loop-walk-preserved
 loop-walk-preserved g c = filled_some _ _ _ c.args.size c.args.table.now c.loop-walk.walk c.loop-walk.done c.loop-walk.table c.loop-walk.auto.table c.loop-walk.invariant c.requires c.in-Some.s c.step.new.walk c.in-Some.ensures.gives
 
-pub returns-in-default-last : goal.returns-in-default-last
-returns-in-default-last g c =
-    let h = filled_end_none _ _ _ c.args.size c.args.table.now c.loop-walk.walk c.loop-walk.done c.loop-walk.table c.loop-walk.auto.table c.loop-walk.invariant c.loop-walk-test.false c.in-default-last.is in
+pub returns-in_default-last : goal.returns-in_default-last
+returns-in_default-last g c =
+    let h = filled_end_none _ _ _ c.args.size c.args.table.now c.loop-walk.walk c.loop-walk.done c.loop-walk.table c.loop-walk.auto.table c.loop-walk.invariant c.loop-walk-test.false c.in_default-last.is in
     record { count = h.count; after = h.after }
 
 pub bounds-table-done-2 : goal.bounds-table-done-2

@@ -7,16 +7,16 @@ use Rattle.sweep.proofs.walks.step.Goals as goal
 laws : (g : given.Over) → Labels g.Shown-as-Label.advanced g.Shown-as-SameLabel.matches
 laws g = record { zero = g.Shown-as-Label-met.zero; sum = g.Shown-as-Label-met.sum; exact = g.Shown-as-SameLabel-met.exact }
 
-pub returns-in-default : goal.returns-in-default
-returns-in-default g c = record {
-  gives = step_none _ _ (laws g) _ c.args.size c.args.walk.now c.sight-seen.result c.sight-seen.ensures c.requires c.in-default.is;
+pub returns-in_default : goal.returns-in_default
+returns-in_default g c = record {
+  gives = step_none _ _ (laws g) _ c.args.size c.args.walk.now c.sight-seen.result c.sight-seen.ensures c.requires c.in_default.is;
   on = omega (arith, c.sight-seen.ensures.some);
   within = omega (arith, c.sight-seen.ensures.within);
 }
 
-pub returns-in-default-last : goal.returns-in-default-last
-returns-in-default-last g c = record {
-  gives = step_first _ _ (laws g) _ c.args.size c.args.walk.now c.sight-seen.result c.sight-seen.ensures c.requires c.in-Some.label c.in-Some.is c.in-default-last.is;
+pub returns-in_default-last : goal.returns-in_default-last
+returns-in_default-last g c = record {
+  gives = step_first _ _ (laws g) _ c.args.size c.args.walk.now c.sight-seen.result c.sight-seen.ensures c.requires c.in-Some.label c.in-Some.is c.in_default-last.is;
   on = omega (arith, c.sight-seen.ensures.some);
   within = omega (arith, c.sight-seen.ensures.within);
 }
@@ -30,7 +30,7 @@ returns-in-Some-extended g c = record {
 
 pub returns : goal.returns
 returns g c = record {
-  gives = step_ended _ _ (laws g) _ c.args.size c.args.walk.now c.sight-seen.result c.sight-seen.ensures c.requires c.in-Some.label c.in-Some.is c.in-Some-last.s c.in-Some-last.is c.in-default-extended.ensures;
+  gives = step_ended _ _ (laws g) _ c.args.size c.args.walk.now c.sight-seen.result c.sight-seen.ensures c.requires c.in-Some.label c.in-Some.is c.in-Some-last.s c.in-Some-last.is c.in_default-extended.ensures;
   on = omega (arith, c.sight-seen.ensures.some);
   within = omega (arith, c.sight-seen.ensures.within);
 }

@@ -10,7 +10,7 @@ loop-change-init g c = refl
 
 pub loop-change-preserved : goal.loop-change-preserved
 loop-change-preserved g c =
-    ap (λ h. told_all h (drop (c.loop-change.change-index + 1) c.args.list.now)) c.tell-one.ensures
+    ap (λ h. told_all h (drop (c.loop-change.change-index + 1) c.args.list.now)) c.tell_one.ensures
     ∙ sym (at_drop_more (told_all (g.L.Listener.hearing c.loop-change.listener)) c.args.list.now c.loop-change.change-index (Removal blank) c.loop-change-test.true)
     ∙ c.loop-change.invariant
 

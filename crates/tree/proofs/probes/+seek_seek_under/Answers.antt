@@ -4,10 +4,10 @@ use Rattle.tree.proofs.Bounded.{size_bounded}
 use Rattle.tree.proofs.Sighted.{Untried, sees_undefined, sees_shut, sees_leaf, sees_alias, sees_container, turns_end, turn_other, turn_before, turn_missed, turn_found, blank}
 use Rattle.tree.proofs.probes.+seek_seek_under.Goals as goal
 
-pub seek-returns-in-default : goal.seek-returns-in-default
-seek-returns-in-default t c =
+pub seek-returns-in_default : goal.seek-returns-in_default
+seek-returns-in_default t c =
     let more : 0 < c.args.fuel = omega arith in
-    sees_undefined _ _ _ _ _ _ more (sym c.region.ensures.is ∙ c.in-default.is)
+    sees_undefined _ _ _ _ _ _ more (sym c.region.ensures.is ∙ c.in_default.is)
 
 pub seek-returns-then-not-found : goal.seek-returns-then-not-found
 seek-returns-then-not-found t c =
@@ -18,7 +18,7 @@ pub seek-returns-in-Leaf : goal.seek-returns-in-Leaf
 seek-returns-in-Leaf t c =
     let more : 0 < c.args.fuel = omega arith in
     let small : c.in-Some.found.size ≤ 2 ^ 40 = size_bounded c.in-Some.found c.in-Some.ensures.bounded in
-    sees_leaf _ _ _ _ _ _ more _ _ (sym c.region.ensures.is ∙ c.in-Some.is) (not-false _ c.if-not-found.false) c.if-address-found.false c.min-limit.ensures _ _ _ c.in-Leaf.is small c.place-in-leaf-place.ensures
+    sees_leaf _ _ _ _ _ _ more _ _ (sym c.region.ensures.is ∙ c.in-Some.is) (not-false _ c.if-not-found.false) c.if-address-found.false c.min-limit.ensures _ _ _ c.in-Leaf.is small c.place_in_leaf-place.ensures
 
 pub seek-returns-in-Alias : goal.seek-returns-in-Alias
 seek-returns-in-Alias t c =
@@ -28,29 +28,29 @@ seek-returns-in-Alias t c =
 pub seek-returns-in-Container : goal.seek-returns-in-Container
 seek-returns-in-Container t c =
     let more : 0 < c.args.fuel = omega arith in
-    sees_container _ _ _ _ _ _ more _ _ (sym c.region.ensures.is ∙ c.in-Some.is) (not-false _ c.if-not-found.false) c.if-address-found.false c.min-limit.ensures _ c.in-Container.is c.seek-under.ensures
+    sees_container _ _ _ _ _ _ more _ _ (sym c.region.ensures.is ∙ c.in-Some.is) (not-false _ c.if-not-found.false) c.if-address-found.false c.min-limit.ensures _ c.in-Container.is c.seek_under.ensures
 
-pub seek-under-returns : goal.seek-under-returns
-seek-under-returns t c =
+pub seek_under-returns : goal.seek_under-returns
+seek_under-returns t c =
     let fits : c.args.tree.now.table.attached ≤ length c.args.tree.now.table.order = omega arith in
     turns_end _ _ _ _ _ _ blank _ _ _ _ fits c.loop-i.invariant c.loop-i-test.false
 
-pub seek-under-returns-then-is-some : goal.seek-under-returns-then-is-some
-seek-under-returns-then-is-some t c =
+pub seek_under-returns-then-is_some : goal.seek_under-returns-then-is_some
+seek_under-returns-then-is_some t c =
     let fits : c.args.tree.now.table.attached ≤ length c.args.tree.now.table.order = omega arith in
-    turn_found _ _ _ _ _ _ blank _ _ _ _ fits c.loop-i.invariant _ c.loop-i-test.true c.if-c-parent.false c.if-address-c.false c.seek-seen.ensures c.if-is-some.ensures
+    turn_found _ _ _ _ _ _ blank _ _ _ _ fits c.loop-i.invariant _ c.loop-i-test.true c.if-c-parent.false c.if-address-c.false c.seek-seen.ensures c.if-is_some.ensures
 
-pub seek-under-loop-i-preserved-then-c-parent : goal.seek-under-loop-i-preserved-then-c-parent
-seek-under-loop-i-preserved-then-c-parent t c =
+pub seek_under-loop-i-preserved-then-c-parent : goal.seek_under-loop-i-preserved-then-c-parent
+seek_under-loop-i-preserved-then-c-parent t c =
     let fits : c.args.tree.now.table.attached ≤ length c.args.tree.now.table.order = omega arith in
     turn_other _ _ _ _ _ _ blank _ _ _ _ fits c.loop-i.invariant c.loop-i-test.true c.if-c-parent.true
 
-pub seek-under-loop-i-preserved-then-address-c : goal.seek-under-loop-i-preserved-then-address-c
-seek-under-loop-i-preserved-then-address-c t c =
+pub seek_under-loop-i-preserved-then-address-c : goal.seek_under-loop-i-preserved-then-address-c
+seek_under-loop-i-preserved-then-address-c t c =
     let fits : c.args.tree.now.table.attached ≤ length c.args.tree.now.table.order = omega arith in
     subst (Untried _ _ _ _ _ _ _) (sym c.min-limit.ensures) (turn_before _ _ _ _ _ _ blank _ _ _ _ fits c.loop-i.invariant c.loop-i-test.true c.if-c-parent.false c.if-address-c.true)
 
-pub seek-under-loop-i-preserved : goal.seek-under-loop-i-preserved
-seek-under-loop-i-preserved t c =
+pub seek_under-loop-i-preserved : goal.seek_under-loop-i-preserved
+seek_under-loop-i-preserved t c =
     let fits : c.args.tree.now.table.attached ≤ length c.args.tree.now.table.order = omega arith in
-    turn_missed _ _ _ _ _ _ blank _ _ _ _ fits c.loop-i.invariant _ c.loop-i-test.true c.if-c-parent.false c.if-address-c.false c.seek-seen.ensures c.if-is-some.ensures
+    turn_missed _ _ _ _ _ _ blank _ _ _ _ fits c.loop-i.invariant _ c.loop-i-test.true c.if-c-parent.false c.if-address-c.false c.seek-seen.ensures c.if-is_some.ensures

@@ -4,8 +4,8 @@ use Rattle.bank.proofs.Fronts.{ram_fresh}
 use Rattle.bank.proofs.Mixes.{replicate_small}
 use Rattle.bank.proofs.ram.Ram.new.Goals as goal
 
-pub invariant-of-result : goal.invariant-of-result
-invariant-of-result c = (refl, (grind (arith, nat_tests), (replicate_small 8192 0 (lit< tt), tt)))
+pub invariant_of-result : goal.invariant_of-result
+invariant_of-result c = (refl, (grind (arith, nat_tests), (replicate_small 8192 0 (lit< tt), tt)))
 
 pub returns : goal.returns
-returns c = ram_fresh _ c.args.len c.shown-length.ensures
+returns c = ram_fresh _ c.args.len c.shown_length.ensures

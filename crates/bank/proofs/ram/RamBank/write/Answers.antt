@@ -16,8 +16,8 @@ returns-then-offset-len c =
       alters = altered _ _ _ _ _ after;
     }
 
-pub invariant-of-self : goal.invariant-of-self
-invariant-of-self c =
+pub invariant_of-self : goal.invariant_of-self
+invariant_of-self c =
     let s = c.args.self.now in
     (length-set s.bytes _ _ ∙ s.whole, (s.within, (set_small s.bytes _ _ (omega arith) s.small, tt)))
 

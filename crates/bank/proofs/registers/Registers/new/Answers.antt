@@ -2,5 +2,5 @@ use Rattle.std.proofs.Common.{refl, arith, lit<, rules}
 use Rattle.bank.proofs.Mixes.{replicate_small}
 use Rattle.bank.proofs.registers.Registers.new.Goals as goal
 
-pub invariant-of-result : goal.invariant-of-result
-invariant-of-result c = (refl, (omega arith, (replicate_small 256 0 (lit< tt), (search rules, tt))))
+pub invariant_of-result : goal.invariant_of-result
+invariant_of-result c = (refl, (omega arith, (replicate_small 256 0 (lit< tt), (search rules, tt))))

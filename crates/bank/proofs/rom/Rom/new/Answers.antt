@@ -8,7 +8,7 @@ loop-i-init c = (refl, replicate_small 8192 0 (lit< tt), refl)
 
 pub loop-i-preserved : goal.loop-i-preserved
 loop-i-preserved c =
-    let byte = (c.type-inv.bytes c.loop-i.i).fits in
+    let byte = (c.type_inv.bytes c.loop-i.i).fits in
     copy_more c.loop-i.own c.args.bytes.now c.loop-i.i (omega arith) byte c.loop-i.invariant
 
 pub returns : goal.returns

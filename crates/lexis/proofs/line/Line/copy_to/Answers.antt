@@ -9,5 +9,5 @@ returns c =
     let e = sym (length-take-le l.len l.bytes (omega arith)) in
     record {
       answer = placed_at _ _ _ _ e (omega arith);
-      after = placed_in _ _ _ _ l.len _ e (omega arith) (c.copy-from-slice.ensures.after ∙ ap (λ n. take n l.bytes) (omega arith)) (omega arith);
+      after = placed_in _ _ _ _ l.len _ e (omega arith) (c.copy_from_slice.ensures.after ∙ ap (λ n. take n l.bytes) (omega arith)) (omega arith);
     }

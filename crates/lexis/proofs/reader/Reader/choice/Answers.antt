@@ -6,7 +6,7 @@ use Rattle.lexis.proofs.reader.Reader.choice.Goals as goal
 pub returns-in-Some : goal.returns-in-Some
 returns-in-Some g c =
     let s = c.skip.ensures in
-    let p = c.keyword-at-found.ensures in
+    let p = c.keyword_at-found.ensures in
     let going = s.lost ∙ c.if-self.false in
     record {
       moves = moved_some _ _ c.skip.new.self _ _ _ (record { fresh = c.if-self.false; inside = picked_long _ _ _ _ p; rest = s.rest; column = s.column }) p c.in-Some.is going;
@@ -16,7 +16,7 @@ returns-in-Some g c =
 pub returns-in-None : goal.returns-in-None
 returns-in-None g c =
     let s = c.skip.ensures in
-    let p = c.keyword-at-found.ensures in
+    let p = c.keyword_at-found.ensures in
     record {
       moves = moved_none _ _ _ _ _ _ (record { fresh = c.if-self.false; inside = picked_long _ _ _ _ p; rest = s.rest; column = s.column }) p c.in-None.is refl;
       otherwise = λ _. c.index-all-0.is ∙ ap (λ l. get_or l 0 c.index-all-0.result) c.all.ensures.list;

@@ -3,8 +3,8 @@ use Rattle.std.proofs.lemmas.Bool.{both_ways}
 use Rattle.lexis.proofs.Steps.{got_long, got_by, moved_got, moved_lost}
 use Rattle.lexis.proofs.reader.Reader.number.Goals as goal
 
-pub overflow-sub-self : goal.overflow-sub-self
-overflow-sub-self c = got_long _ _ _ _ c.in-Ok.ensures
+pub overflow_sub-self : goal.overflow_sub-self
+overflow_sub-self c = got_long _ _ _ _ c.in-Ok.ensures
 
 pub returns-in-Ok : goal.returns-in-Ok
 returns-in-Ok c =

@@ -5,11 +5,11 @@ use Rattle.listener.proofs.Hearings.{answer_is, probed, set_laws, stays_refused}
 use Rattle.listener.specs.Slotting.{slots_kept}
 use Rattle.listener.proofs.slot_table.SlotTableListener.would_take.Goals as goal
 
-pub returns-then-is-err : goal.returns-then-is-err
-returns-then-is-err c =
+pub returns-then-is_err : goal.returns-then-is_err
+returns-then-is_err c =
     let s = c.args.self.now.slots in
     let h = table memory_kind 32 s.slots in
-    let a = answer_is _ true c.add.result c.add.ensures.answer c.if-is-err.ensures.value in
+    let a = answer_is _ true c.add.result c.add.ensures.answer c.if-is_err.ensures.value in
     record {
       answer = a;
       after = c.add.ensures.after ∙ stays_refused h c.args.range (sym a);
@@ -21,7 +21,7 @@ pub returns : goal.returns
 returns c =
     let s = c.args.self.now.slots in
     let h = table memory_kind 32 s.slots in
-    let a = answer_is _ false c.add.result c.add.ensures.answer c.if-is-err.ensures.value in
+    let a = answer_is _ false c.add.result c.add.ensures.answer c.if-is_err.ensures.value in
     record {
       answer = a;
       after = probed h c.args.range _ _ (sym a) c.add.ensures.after c.remove.ensures.after;

@@ -5,21 +5,21 @@ use Rattle.interval.specs.Edits.{free}
 use Rattle.listener.specs.Slots.{held_in}
 use Rattle.listener.proofs.Steps.{clear_past_none, clear_past_apart, unclear_here}
 use Rattle.listener.proofs.slots.Slots.is_clear.Goals as goal
-use Rattle.listener.proofs.slots.Slots.is_clear.Goals.{in-Some+else-not-is-apart, in-default}
+use Rattle.listener.proofs.slots.Slots.is_clear.Goals.{in-Some+else-not-is_apart, in_default}
 
-pub returns-then-not-is-apart : goal.returns-then-not-is-apart
-returns-then-not-is-apart g c =
+pub returns-then-not-is_apart : goal.returns-then-not-is_apart
+returns-then-not-is_apart g c =
     let s = c.args.self.now in
     let h : c.loop-i.i < length s.slots = omega (arith, s.whole) in
-    unclear_here c.args.range.now s.slots c.loop-i.i h c.loop-i.invariant c.in-Some.x c.in-Some.is c.if-not-is-apart.ensures
+    unclear_here c.args.range.now s.slots c.loop-i.i h c.loop-i.invariant c.in-Some.x c.in-Some.is c.if-not-is_apart.ensures
 
 pub loop-i-preserved : goal.loop-i-preserved
 loop-i-preserved g c =
     let s = c.args.self.now in
     let h : c.loop-i.i < length s.slots = omega (arith, s.whole) in
     elim c.match-slot.branch [
-      | in-Some+else-not-is-apart w ↦ clear_past_apart c.args.range.now s.slots c.loop-i.i h c.loop-i.invariant w.in-Some.x w.in-Some.is w.if-not-is-apart.ensures
-      | in-default w ↦ clear_past_none c.args.range.now s.slots c.loop-i.i h c.loop-i.invariant w.in-default.is
+      | in-Some+else-not-is_apart w ↦ clear_past_apart c.args.range.now s.slots c.loop-i.i h c.loop-i.invariant w.in-Some.x w.in-Some.is w.if-not-is_apart.ensures
+      | in_default w ↦ clear_past_none c.args.range.now s.slots c.loop-i.i h c.loop-i.invariant w.in_default.is
     ]
 
 pub returns : goal.returns

@@ -3,23 +3,23 @@ use Rattle.listener.specs.Hearing.{answered}
 use Rattle.listener.proofs.Changing.{same_stays, unlisted, removed_none, is_listed, removed_is, removed_stays, removed_sound, some_held}
 use Rattle.listener.proofs.slots.Slots.remove.Goals as goal
 
-pub returns-in-default : goal.returns-in-default
-returns-in-default g c =
+pub returns-in_default : goal.returns-in_default
+returns-in_default g c =
     let s = c.args.self.now in
-    let f = c.in-default.ensures.is in
+    let f = c.in_default.ensures.is in
     record {
       answer = sym (ap answered (unlisted g.row.N s.slots c.args.range.now s.whole s.apart f));
       after = removed_none g.row.N s.slots c.args.range.now s.whole s.apart f;
       stays = same_stays s.slots;
     }
 
-pub overflow-sub-self : goal.overflow-sub-self
-overflow-sub-self g c =
+pub overflow_sub-self : goal.overflow_sub-self
+overflow_sub-self g c =
     let s = c.args.self.now in
     some_held g.row.N s.slots c.args.range.now s.whole s.apart c.in-Some.i c.in-Some.ensures.is s.count s.counted
 
-pub invariant-of-self : goal.invariant-of-self
-invariant-of-self g c =
+pub invariant_of-self : goal.invariant_of-self
+invariant_of-self g c =
     let s = c.args.self.now in
     removed_sound g.row.N s.slots c.args.range.now s.whole s.apart c.in-Some.i c.in-Some.ensures.is s.count s.counted
 

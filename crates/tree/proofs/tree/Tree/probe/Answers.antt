@@ -7,8 +7,8 @@ use Rattle.tree.proofs.Sighted.{sees_nothing}
 use Rattle.tree.proofs.Steps.{search_beyond}
 use Rattle.tree.proofs.tree.Tree.probe.Goals as goal
 
-pub returns-then-address-root-size : goal.returns-then-address-root-size
-returns-then-address-root-size c =
+pub returns-then-address-root_size : goal.returns-then-address-root_size
+returns-then-address-root_size c =
     let none : (i : ℕ) → search (model_of c.args.self.now.table) (c.args.address + i) ≡ None = λ i. search_beyond _ _ (omega arith) in
     record {
       sees = sees_nothing _ _ _ none;
