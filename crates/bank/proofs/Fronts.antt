@@ -8,9 +8,8 @@ use Rattle.model.specs.declared.kinds.Kind.{Kind}
 use Rattle.model.specs.declared.kinds.Kind.TheVariants.{Ram as Ram', Rom as Rom'}
 use Rattle.bank.specs.Devices.{Device, Sound, masked, put, single, wrote}
 use Rattle.bank.specs.Banks.{front, ram_of, rom_of, shown_for, zeroed, burnt}
-use Rattle.bank.specs.declared.ram.Ram.{Ram}
-use Rattle.bank.specs.declared.rom.Rom.{Rom}
-use Rattle.bank.proofs.Mixes.{Small, take_small, set_small, replicate_small}
+use Rattle.bank.specs.Soundness.{Small, Held, front_long, front_sound}
+use Rattle.bank.proofs.Mixes.{set_small}
 use Rattle.bank.proofs.Singles.{within, mask_within, read_within, write_within}
 
 -- writing and cutting off commute
@@ -27,25 +26,7 @@ take_min k xs = go (cases_lt k (length xs))
     go (inl h) = let e : min (length xs) k ≡ k = omega arith in ap (λ j. take j xs) e
     go (inr h) = let e : min (length xs) k ≡ length xs = omega arith in ap (λ j. take j xs) e ∙ take_all (length xs) xs (omega arith) ∙ sym (take_all k xs h)
 
--- what RAM and ROM know of their array and of how much of it they show
-pub record Held (xs : List ℕ) (n : ℕ) : Type 0 where
-  pub whole : length xs ≡ 8192
-  pub within : n ≤ 8192
-  pub small : Small xs
-
 module _ (kind : Kind) (mask : ℕ) (xs : List ℕ) (n : ℕ) (held : Held xs n) where
-  front_long : length (take n xs) ≡ n
-  front_long = length-take-le n xs (omega arith)
-
-  pub front_sound : mask < 256 → Sound (front kind mask xs n)
-  front_sound narrow =
-      record {
-        short = rw front_long held.within;
-        level = length-replicate n mask ∙ sym front_long;
-        small = take_small n xs held.small;
-        narrow = replicate_small n mask narrow;
-      }
-
   -- a write of b within the front, where v is what the mask makes of it
   front_put : (o b v : ℕ) → o < n → masked (get_or (take n xs) o 0) mask b ≡ v → front kind mask (set xs o v) n ≡ put (front kind mask xs n) o b
   front_put o b v k e =
@@ -55,36 +36,24 @@ module _ (kind : Kind) (mask : ℕ) (xs : List ℕ) (n : ℕ) (held : Held xs n)
   -- what a bank of such a device answers, from the length r that it gives
   module _ (narrow : mask < 256) (dev o r : ℕ) (len : r ≡ length (single (front kind mask xs n) dev).bytes) (k : o < r) where
     front_within : o < n
-    front_within = rw front_long at (within _ (front_sound narrow) dev o r len k)
+    front_within = rw (front_long n xs held) at (within _ (front_sound kind mask xs n held narrow) dev o r len k)
 
     pub front_mask : Some mask ≡ slice_get (single (front kind mask xs n) dev).masks o
     front_mask =
-        sym (ap Some (get_or-replicate n o mask 0 front_within)) ∙ mask_within _ (front_sound narrow) dev o r len k
+        sym (ap Some (get_or-replicate n o mask 0 front_within)) ∙ mask_within _ (front_sound kind mask xs n held narrow) dev o r len k
 
     pub front_read : Some (get_or xs o 0) ≡ slice_get (single (front kind mask xs n) dev).bytes o
     front_read =
-        sym (ap Some (get_or-take n xs o 0 front_within)) ∙ read_within _ (front_sound narrow) dev o r len k
+        sym (ap Some (get_or-take n xs o 0 front_within)) ∙ read_within _ (front_sound kind mask xs n held narrow) dev o r len k
 
     pub front_write : (b v : ℕ) → masked (get_or xs o 0) mask b ≡ v → single (front kind mask (set xs o v) n) ≡ wrote (single (front kind mask xs n)) dev o b
     front_write b v e =
-        ap single (front_put o b v front_within (rw (get_or-take n xs o 0 front_within) e)) ∙ write_within _ (front_sound narrow) dev o r len b k
-
-pub ram_held : (s : Ram) → Held s.bytes s.shown
-ram_held s = record { whole = s.whole; within = s.within; small = s.small }
-
-pub ram_sound : (s : Ram) → Sound (ram_of s.bytes s.shown)
-ram_sound s = front_sound _ _ _ _ (ram_held s) (lit< tt)
+        ap single (front_put o b v front_within (rw (get_or-take n xs o 0 front_within) e)) ∙ write_within _ (front_sound kind mask xs n held narrow) dev o r len b k
 
 pub ram_fresh : (n k : ℕ) → n ≡ shown_for k → ram_of (replicate 8192 0) n ≡ zeroed (shown_for k)
 ram_fresh n k e =
     let low : n ≤ 8192 = grind (arith, nat_tests) in
     ap (λ (ys : List ℕ). record { kind = Ram'; bytes = ys; masks = replicate n 255 }) (take-replicate n 8192 0 low) ∙ ap zeroed e
-
-pub rom_held : (s : Rom) → Held s.bytes s.shown
-rom_held s = record { whole = s.whole; within = s.within; small = s.small }
-
-pub rom_sound : (s : Rom) → Sound (rom_of s.bytes s.shown)
-rom_sound s = front_sound _ _ _ _ (rom_held s) (lit< tt)
 
 -- the first i bytes of ROM's array are copied
 abbrev pub Copied : List ℕ → List ℕ → ℕ → Type 0

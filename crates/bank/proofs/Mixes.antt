@@ -3,15 +3,7 @@ use Rattle.std.proofs.Common.{◌≡◌, ℕ, zero, suc, ◌-◌, ◌<◌, List,
 use lib.Bits.{bit_and, bit_or}
 use Rattle.std.proofs.lemmas.Nat.{and_comm, and_le_l, and_mask, or_comm, or_lt}
 use Rattle.bank.specs.Devices.{masked}
-
-abbrev pub Small : List ℕ → Type 0
-Small xs = (i : ℕ) → get_or xs i 0 < 256
-
-pub take_small : (n : ℕ) (xs : List ℕ) → Small xs → Small (take n xs)
-take_small zero xs s i = omega arith
-take_small (suc n) [] s i = omega arith
-take_small (suc n) (x ∷ xs) s zero = s 0
-take_small (suc n) (x ∷ xs) s (suc i) = take_small n xs (λ k. s (suc k)) i
+use Rattle.bank.specs.Soundness.{Small}
 
 pub set_small : (xs : List ℕ) (i y : ℕ) → y < 256 → Small xs → Small (set xs i y)
 set_small [] i y h s k = s k
@@ -19,11 +11,6 @@ set_small (x ∷ xs) zero y h s zero = h
 set_small (x ∷ xs) zero y h s (suc k) = s (suc k)
 set_small (x ∷ xs) (suc i) y h s zero = s 0
 set_small (x ∷ xs) (suc i) y h s (suc k) = set_small xs i y h (λ k. s (suc k)) k
-
-pub replicate_small : (n y : ℕ) → y < 256 → Small (replicate n y)
-replicate_small zero y h i = omega arith
-replicate_small (suc n) y h zero = h
-replicate_small (suc n) y h (suc i) = replicate_small n y h i
 
 -- a full mask takes the new byte whole, and an empty one leaves the old
 pub masked_full : (v b : ℕ) → b < 256 → masked v 255 b ≡ b

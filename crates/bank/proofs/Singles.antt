@@ -6,14 +6,8 @@ use Rattle.std.proofs.lemmas.Option.{slice_get_past, slice_get-get_or}
 use Rattle.std.proofs.lemmas.Bool.{eqb-true, eq-eqb, lt-ltb, le-ltb, cond-true, cond-false}
 use Rattle.bank.specs.Answers.{writing}
 use Rattle.bank.specs.Devices.{Device, Sound, absent, put, wrote, single}
+use Rattle.bank.specs.Soundness.{single_sound}
 use Rattle.bank.proofs.Writes.{wrote_past}
-
-absent_sound : Sound absent
-absent_sound =
-    record { short = omega arith; level = refl; small = λ i. omega arith; narrow = λ i. omega arith }
-
-pub single_sound : (d : Device) → Sound d → (n : ℕ) → Sound (single d n)
-single_sound d s n = elim (eqb n 0) as (λ t. Sound (cond t d absent)) [ true ↦ s | false ↦ absent_sound ]
 
 single_here : (d : Device) (n : ℕ) → n ≡ 0 → single d n ≡ d
 single_here d n e = cond-true (eqb n 0) d absent (eq-eqb n 0 e)

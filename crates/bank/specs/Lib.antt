@@ -4,3 +4,4 @@ pub mod Banks
 pub mod Devices
 pub mod JointWrites
 pub mod Transfers
+pub mod Soundness

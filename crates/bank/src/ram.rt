@@ -2,7 +2,7 @@
 ghost use Rattle.std.specs.Prelude.{◌≡◌, ℕ, ◌<◌, ◌≤◌, length, slice_index};
 ghost use Rattle.bank.specs.Devices.{single};
 ghost use Rattle.bank.specs.Banks.{ram_of, zeroed, shown_for};
-ghost use Rattle.std.proofs.Common.{rules, arith};
+ghost use Rattle.bank.specs.Soundness.{ram_kept};
 
 use crate::bank::{Bank, PastEnd};
 use model::kinds::Kind;
@@ -40,7 +40,7 @@ fn shown_length(len: u64) -> u64
 impl Bank for Ram {
     ghost devices = { λ s. single (ram_of s.bytes s.shown) };
 
-    ghost sound = { first_of (Prim.search rules, Prim.grind (arith, Self.row.coded.inj)) };
+    ghost sound = { λ s. ram_kept s.bytes s.shown s.whole s.within s.small };
 
     fn kind(&self, device: u16) -> Kind {
         if device == 0 { Kind::Ram } else { Kind::Rom }

@@ -2,7 +2,7 @@
 ghost use Rattle.std.specs.Prelude.{◌≡◌, ℕ, ◌<◌, length, slice_index};
 ghost use Rattle.bank.specs.Devices.{single};
 ghost use Rattle.bank.specs.Banks.{registers_of, cleared};
-ghost use Rattle.std.proofs.Common.{rules, arith};
+ghost use Rattle.bank.specs.Soundness.{registers_kept};
 
 use crate::bank::{Bank, PastEnd};
 use model::kinds::Kind;
@@ -32,7 +32,7 @@ impl Registers {
 impl Bank for Registers {
     ghost devices = { λ s. single (registers_of s.bytes s.masks) };
 
-    ghost sound = { first_of (Prim.search rules, Prim.grind (arith, Self.row.coded.inj)) };
+    ghost sound = { λ s. registers_kept s.bytes s.masks s.whole s.level s.small s.narrow };
 
     fn kind(&self, device: u16) -> Kind {
         if device == 0 { Kind::Reg } else { Kind::Rom }

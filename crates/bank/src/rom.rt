@@ -2,7 +2,7 @@
 ghost use Rattle.std.specs.Prelude.{◌≡◌, ℕ, ◌<◌, ◌≤◌, length, slice_index};
 ghost use Rattle.bank.specs.Devices.{single};
 ghost use Rattle.bank.specs.Banks.{rom_of, burnt};
-ghost use Rattle.std.proofs.Common.{rules, arith};
+ghost use Rattle.bank.specs.Soundness.{rom_kept};
 
 use crate::bank::{Bank, PastEnd};
 use model::kinds::Kind;
@@ -36,7 +36,7 @@ impl Rom {
 impl Bank for Rom {
     ghost devices = { λ s. single (rom_of s.bytes s.shown) };
 
-    ghost sound = { first_of (Prim.search rules, Prim.grind (arith, Self.row.coded.inj)) };
+    ghost sound = { λ s. rom_kept s.bytes s.shown s.whole s.within s.small };
 
     fn kind(&self, _device: u16) -> Kind {
         Kind::Rom

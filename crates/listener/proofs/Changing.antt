@@ -14,8 +14,10 @@ use Rattle.listener.specs.Sets.{length_without, without_absent}
 use Rattle.listener.specs.Slotting.{full, free_within, put_held, put_lone, put_stays, listed_slot, clear_held, clear_lone, clear_stays}
 
 -- what the slots keep, with their count
-abbrev pub Sound : ℕ → List (Option Range) → ℕ → Type 0
-Sound n s count = (length s ≡ n) × ((lone s ≡ true) × ((count ≡ length (held_in s)) × Unit {0}))
+pub record Sound (n : ℕ) (s : List (Option Range)) (count : ℕ) : Type 0 where
+  pub whole : length s ≡ n
+  pub apart : lone s ≡ true
+  pub counted : count ≡ length (held_in s)
 
 pub same_stays : (s : List (Option Range)) → Stays s s
 same_stays s q _ _ = refl
@@ -47,7 +49,11 @@ module _ (n : ℕ) (s : List (Option Range)) (r : Range) (whole : length s ≡ n
       pub added_sound : (count : ℕ) → count ≡ length (held_in s) → Sound n (set s i (Some r)) (count + 1)
       added_sound count counted =
           let longer = ap length put_in ∙ length_put (held_in s) r in
-          (length-set s i (Some r) ∙ whole, (put_lone r (sym fit) s i apart (sym clear) (sym f), (omega (arith, longer), tt)))
+          record {
+            whole = length-set s i (Some r) ∙ whole;
+            apart = put_lone r (sym fit) s i apart (sym clear) (sym f);
+            counted = omega (arith, longer);
+          }
 
   module _ (f : None ≡ slot_in s r) where
     pub unlisted : listed (held_in s) r ≡ false
@@ -70,7 +76,11 @@ module _ (n : ℕ) (s : List (Option Range)) (r : Range) (whole : length s ≡ n
     removed_sound count counted =
         let shorter = ap length (clear_held r s i apart (sym f)) in
         let one = length_without (held_in s) r is_listed in
-        (length-set s i None ∙ whole, (clear_lone r s i apart (sym f), (omega (arith, shorter, one), tt)))
+        record {
+          whole = length-set s i None ∙ whole;
+          apart = clear_lone r s i apart (sym f);
+          counted = omega (arith, shorter, one);
+        }
 
     pub some_held : (count : ℕ) → count ≡ length (held_in s) → 1 ≤ count
     some_held count counted = omega (arith, length_without (held_in s) r is_listed)

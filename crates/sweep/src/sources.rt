@@ -18,5 +18,5 @@ pub trait Source {
     ghost shows: { Self → ℕ → Option Self.Shown };
 
     fn sight(&self, address: u64, limit: u64) -> Sighting<Self::Shown>
-        ensures { Sees Shown-as-Label.advanced (shows self.now) address limit result };
+        ensures { Sees Self.Shown.Label.advanced (shows self.now) address limit result };
 }

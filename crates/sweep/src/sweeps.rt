@@ -12,7 +12,7 @@ use interval::stretches::{Stretch, TOP};
 
 // Whether what is shown below `size` is at most `room` stretches.
 fn fits<S: Source>(source: &S, size: u64, room: usize) -> bool
-    ensures { result ≡ nat_le (length (stretches Shown-as-Label.advanced Shown-as-SameLabel.matches (S.Source.shows source.now) 0 size)) room }
+    ensures { result ≡ nat_le (length (stretches S.Shown.Label.advanced S.Shown.SameLabel.matches (S.Source.shows source.now) 0 size)) room }
 {
     let mut walk = Walk {
         address: 0,
@@ -33,9 +33,9 @@ fn fits<S: Source>(source: &S, size: u64, room: usize) -> bool
 
 // Writes the stretches of what is shown below `size`, for which there is room, and answers how many they are.
 fn fill<S: Source>(source: &S, size: u64, table: &mut [Stretch<S::Shown>]) -> usize
-    requires { length (stretches Shown-as-Label.advanced Shown-as-SameLabel.matches (S.Source.shows source.now) 0 size) ≤ length table.old }
-    ensures count { result ≡ length (stretches Shown-as-Label.advanced Shown-as-SameLabel.matches (S.Source.shows source.now) 0 size) }
-    ensures after { table.new ≡ stretches Shown-as-Label.advanced Shown-as-SameLabel.matches (S.Source.shows source.now) 0 size ++ drop result table.old }
+    requires { length (stretches S.Shown.Label.advanced S.Shown.SameLabel.matches (S.Source.shows source.now) 0 size) ≤ length table.old }
+    ensures count { result ≡ length (stretches S.Shown.Label.advanced S.Shown.SameLabel.matches (S.Source.shows source.now) 0 size) }
+    ensures after { table.new ≡ stretches S.Shown.Label.advanced S.Shown.SameLabel.matches (S.Source.shows source.now) 0 size ++ drop result table.old }
 {
     let mut walk = Walk {
         address: 0,
@@ -63,9 +63,9 @@ fn sweep_checked<S: Source>(
     table: &mut [Stretch<S::Shown>],
 ) -> Result<usize, Refusal>
     requires { size ≤ 2 ^ 40 }
-    ensures count { result ≡ counted (fitted table.old (stretches Shown-as-Label.advanced Shown-as-SameLabel.matches (S.Source.shows source.now) 0 size)) }
-    ensures after { table.new ≡ written table.old (fitted table.old (stretches Shown-as-Label.advanced Shown-as-SameLabel.matches (S.Source.shows source.now) 0 size)) }
-    ensures stands { Swept Shown-as-Label.advanced Shown-as-SameLabel.matches (S.Source.shows source.now) size table.old table.new result }
+    ensures count { result ≡ counted (fitted table.old (stretches S.Shown.Label.advanced S.Shown.SameLabel.matches (S.Source.shows source.now) 0 size)) }
+    ensures after { table.new ≡ written table.old (fitted table.old (stretches S.Shown.Label.advanced S.Shown.SameLabel.matches (S.Source.shows source.now) 0 size)) }
+    ensures stands { Swept S.Shown.Label.advanced S.Shown.SameLabel.matches (S.Source.shows source.now) size table.old table.new result }
 {
     if !fits(source, size, table.len()) {
         return Err(Refusal::Short);
@@ -80,9 +80,9 @@ pub fn sweep<S: Source>(
     size: u64,
     table: &mut [Stretch<S::Shown>],
 ) -> Result<usize, Refusal>
-    ensures count { result ≡ counted (sweep_answer Shown-as-Label.advanced Shown-as-SameLabel.matches (S.Source.shows source.now) size table.old) }
-    ensures after { table.new ≡ written table.old (sweep_answer Shown-as-Label.advanced Shown-as-SameLabel.matches (S.Source.shows source.now) size table.old) }
-    ensures stands { Swept Shown-as-Label.advanced Shown-as-SameLabel.matches (S.Source.shows source.now) size table.old table.new result }
+    ensures count { result ≡ counted (sweep_answer S.Shown.Label.advanced S.Shown.SameLabel.matches (S.Source.shows source.now) size table.old) }
+    ensures after { table.new ≡ written table.old (sweep_answer S.Shown.Label.advanced S.Shown.SameLabel.matches (S.Source.shows source.now) size table.old) }
+    ensures stands { Swept S.Shown.Label.advanced S.Shown.SameLabel.matches (S.Source.shows source.now) size table.old table.new result }
 {
     if size > TOP {
         return Err(Refusal::High);

@@ -37,7 +37,7 @@ pub(crate) fn step<S: Source>(
     size: u64,
 ) -> Option<Stretch<S::Shown>>
     requires { walk.old.address < size }
-    ensures gives { to_come Shown-as-Label.advanced Shown-as-SameLabel.matches (S.Source.shows source.now) size walk.old ≡ option_to_list result ++ to_come Shown-as-Label.advanced Shown-as-SameLabel.matches (S.Source.shows source.now) size walk.new }
+    ensures gives { to_come S.Shown.Label.advanced S.Shown.SameLabel.matches (S.Source.shows source.now) size walk.old ≡ option_to_list result ++ to_come S.Shown.Label.advanced S.Shown.SameLabel.matches (S.Source.shows source.now) size walk.new }
     ensures on { walk.old.address < walk.new.address }
     ensures within { walk.new.address ≤ size }
 {

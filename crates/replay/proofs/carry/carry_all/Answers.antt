@@ -11,7 +11,7 @@ loop-i-preserved c = one_more _ _ _ _ _ _ c.loop-i.invariant _ c.loop-i-test.tru
 
 pub returns-in_err-live : goal.returns-in_err-live
 returns-in_err-live c =
-    let p = err_from_is_err_and c.from-residual.result c.from-residual.ensures.1 in
+    let p = err_from_is_err_and c.from_residual.result c.from_residual.ensures.1 in
     rw (p.1, p.2) (failed _ _ _ _ _ _ c.loop-i.invariant _ c.loop-i-test.true c.loop-i.auto.table _ c.in_err-live.ensures)
 
 pub returns : goal.returns

@@ -6,8 +6,8 @@ use Rattle.sweep.proofs.Before.{Labels}
 use Rattle.sweep.proofs.sweeps.sweep_checked.Given as given
 use Rattle.sweep.proofs.sweeps.sweep_checked.Goals as goal
 
-laws : (g : given.Over) → Labels g.Shown-as-Label.advanced g.Shown-as-SameLabel.matches
-laws g = record { zero = g.Shown-as-Label-met.zero; sum = g.Shown-as-Label-met.sum; exact = g.Shown-as-SameLabel-met.exact }
+laws : (g : given.Over) → Labels g.S.Shown.Label.advanced g.S.Shown.SameLabel.matches
+laws g = record { zero = g.met.S.Shown.Label.zero; sum = g.met.S.Shown.Label.sum; exact = g.met.S.Shown.SameLabel.exact }
 
 pub returns-then-not-fits : goal.returns-then-not-fits
 returns-then-not-fits g c =

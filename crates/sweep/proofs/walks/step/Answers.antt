@@ -4,8 +4,8 @@ use Rattle.sweep.proofs.Stepping.{step_none, step_first, step_longer, step_ended
 use Rattle.sweep.proofs.walks.step.Given as given
 use Rattle.sweep.proofs.walks.step.Goals as goal
 
-laws : (g : given.Over) → Labels g.Shown-as-Label.advanced g.Shown-as-SameLabel.matches
-laws g = record { zero = g.Shown-as-Label-met.zero; sum = g.Shown-as-Label-met.sum; exact = g.Shown-as-SameLabel-met.exact }
+laws : (g : given.Over) → Labels g.S.Shown.Label.advanced g.S.Shown.SameLabel.matches
+laws g = record { zero = g.met.S.Shown.Label.zero; sum = g.met.S.Shown.Label.sum; exact = g.met.S.Shown.SameLabel.exact }
 
 pub returns-in_default : goal.returns-in_default
 returns-in_default g c = record {

@@ -1,5 +1,6 @@
 use Rattle.std.proofs.Common.{lit<}
-use Rattle.bank.proofs.Fronts.{ram_held, ram_sound, front_read}
+use Rattle.bank.proofs.Fronts.{front_read}
+use Rattle.bank.proofs.Shown.{ram_held, ram_sound}
 use Rattle.bank.proofs.Singles.{read_past}
 use Rattle.bank.proofs.ram.RamBank.read.Goals as goal
 

@@ -1,6 +1,7 @@
 use Rattle.std.proofs.Common.{get_or, ◌∙◌, arith, lit<}
 use Rattle.std.proofs.lemmas.List.{length-set}
-use Rattle.bank.proofs.Fronts.{ram_held, ram_sound, front_write}
+use Rattle.bank.proofs.Fronts.{front_write}
+use Rattle.bank.proofs.Shown.{ram_held, ram_sound}
 use Rattle.bank.proofs.Mixes.{set_small, masked_full}
 use Rattle.bank.proofs.Singles.{write_past, refused, taken}
 use Rattle.bank.proofs.Writes.{altered}
@@ -19,7 +20,11 @@ returns-then-offset-len c =
 pub invariant_of-self : goal.invariant_of-self
 invariant_of-self c =
     let s = c.args.self.now in
-    (length-set s.bytes _ _ ∙ s.whole, (s.within, (set_small s.bytes _ _ (omega arith) s.small, tt)))
+    record {
+      whole = length-set s.bytes _ _ ∙ s.whole;
+      within = s.within;
+      small = set_small s.bytes _ _ (omega arith) s.small;
+    }
 
 pub returns : goal.returns
 returns c =

@@ -1,4 +1,4 @@
-use Rattle.bank.proofs.Registry.{registers_sound}
+use Rattle.bank.proofs.Shown.{registers_sound}
 use Rattle.bank.proofs.Singles.{read_past, read_within}
 use Rattle.bank.proofs.registers.RegistersBank.read.Goals as goal
 

@@ -1,7 +1,7 @@
 use Rattle.std.proofs.Common.{◌∙◌, arith}
 use Rattle.std.proofs.lemmas.List.{length-set}
 use Rattle.bank.proofs.Mixes.{set_small, masked_small}
-use Rattle.bank.proofs.Registry.{registers_sound}
+use Rattle.bank.proofs.Shown.{registers_sound}
 use Rattle.bank.proofs.Singles.{write_past, write_within, refused, taken}
 use Rattle.bank.proofs.Writes.{altered}
 use Rattle.bank.proofs.registers.RegistersBank.write.Goals as goal
@@ -19,7 +19,12 @@ returns-then-offset-len c =
 pub invariant_of-self : goal.invariant_of-self
 invariant_of-self c =
     let s = c.args.self.now in
-    (length-set s.bytes _ _ ∙ s.whole, (s.level, (set_small s.bytes _ _ (masked_small _ _ _ (s.small c.args.offset) (omega arith)) s.small, (s.narrow, tt))))
+    record {
+      whole = length-set s.bytes _ _ ∙ s.whole;
+      level = s.level;
+      small = set_small s.bytes _ _ (masked_small _ _ _ (s.small c.args.offset) (omega arith)) s.small;
+      narrow = s.narrow;
+    }
 
 pub returns : goal.returns
 returns c =

@@ -1,6 +1,6 @@
 use Rattle.std.proofs.Common.{◌≡◌, refl, arith, lit<}
 use Rattle.bank.proofs.Fronts.{copy_more, rom_fresh}
-use Rattle.bank.proofs.Mixes.{replicate_small}
+use Rattle.bank.specs.Soundness.{replicate_small}
 use Rattle.bank.proofs.rom.Rom.new.Goals as goal
 
 pub loop-i-init : goal.loop-i-init

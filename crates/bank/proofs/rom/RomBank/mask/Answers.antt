@@ -1,5 +1,6 @@
 use Rattle.std.proofs.Common.{lit<}
-use Rattle.bank.proofs.Fronts.{rom_held, rom_sound, front_mask}
+use Rattle.bank.proofs.Fronts.{front_mask}
+use Rattle.bank.proofs.Shown.{rom_held, rom_sound}
 use Rattle.bank.proofs.Singles.{mask_past}
 use Rattle.bank.proofs.rom.RomBank.mask.Goals as goal
 

@@ -36,7 +36,8 @@ overflow_add-self g c =
 pub invariant_of-self : goal.invariant_of-self
 invariant_of-self g c =
     let s = c.args.self.now in
-    added_sound g.row.N s.slots c.args.range s.whole s.apart c.if-not-is_lawful.ensures c.if-not-is_clear.ensures c.in-Some.i c.in-Some.ensures s.count s.counted
+    let kept = added_sound g.row.N s.slots c.args.range s.whole s.apart c.if-not-is_lawful.ensures c.if-not-is_clear.ensures c.in-Some.i c.in-Some.ensures s.count s.counted in
+    record { whole = kept.whole; apart = kept.apart; counted = kept.counted }
 
 pub returns : goal.returns
 returns g c =

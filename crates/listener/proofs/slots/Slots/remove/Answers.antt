@@ -21,7 +21,8 @@ overflow_sub-self g c =
 pub invariant_of-self : goal.invariant_of-self
 invariant_of-self g c =
     let s = c.args.self.now in
-    removed_sound g.row.N s.slots c.args.range.now s.whole s.apart c.in-Some.i c.in-Some.ensures.is s.count s.counted
+    let kept = removed_sound g.row.N s.slots c.args.range.now s.whole s.apart c.in-Some.i c.in-Some.ensures.is s.count s.counted in
+    record { whole = kept.whole; apart = kept.apart; counted = kept.counted }
 
 pub returns : goal.returns
 returns g c =

@@ -1,0 +1,65 @@
+-- Every device of RAM, of ROM and of registers is sound, from what their arrays keep.
+use Rattle.std.specs.Prelude.{◌≡◌, ℕ, zero, suc, ◌<◌, ◌≤◌, true, false, cond, List, [], ◌∷◌, length, take, replicate, ◌==◌, slice_index}
+use Rattle.std.proofs.Common.{refl, sym, ◌∙◌, arith, lit<}
+use Rattle.std.proofs.lemmas.List.{length-take-le, length-replicate}
+use Rattle.model.specs.declared.kinds.Kind.{Kind}
+use Rattle.bank.specs.Devices.{Device, Sound, absent, single}
+use Rattle.bank.specs.Banks.{front, ram_of, rom_of, registers_of}
+
+abbrev pub Small : List ℕ → Type 0
+Small xs = (i : ℕ) → slice_index xs i < 256
+
+pub take_small : (n : ℕ) (xs : List ℕ) → Small xs → Small (take n xs)
+take_small zero xs s i = omega arith
+take_small (suc n) [] s i = omega arith
+take_small (suc n) (x ∷ xs) s zero = s 0
+take_small (suc n) (x ∷ xs) s (suc i) = take_small n xs (λ k. s (suc k)) i
+
+pub replicate_small : (n y : ℕ) → y < 256 → Small (replicate n y)
+replicate_small zero y h i = omega arith
+replicate_small (suc n) y h zero = h
+replicate_small (suc n) y h (suc i) = replicate_small n y h i
+
+absent_sound : Sound absent
+absent_sound =
+    record { short = omega arith; level = refl; small = λ i. omega arith; narrow = λ i. omega arith }
+
+pub single_sound : (d : Device) → Sound d → (n : ℕ) → Sound (single d n)
+single_sound d s n = elim (n == 0) as (λ t. Sound (cond t d absent)) [ true ↦ s | false ↦ absent_sound ]
+
+-- what RAM and ROM know of their array and of how much of it they show
+pub record Held (xs : List ℕ) (n : ℕ) : Type 0 where
+  pub whole : length xs ≡ 8192
+  pub within : n ≤ 8192
+  pub small : Small xs
+
+pub front_long : (n : ℕ) (xs : List ℕ) → Held xs n → length (take n xs) ≡ n
+front_long n xs held = let whole = held.whole in let within = held.within in length-take-le n xs (omega arith)
+
+pub front_sound : (kind : Kind) (mask : ℕ) (xs : List ℕ) (n : ℕ) → Held xs n → mask < 256 → Sound (front kind mask xs n)
+front_sound kind mask xs n held narrow =
+    let long = front_long n xs held in
+    record {
+      short = rw long held.within;
+      level = length-replicate n mask ∙ sym long;
+      small = take_small n xs held.small;
+      narrow = replicate_small n mask narrow;
+    }
+
+pub ram_kept : (bytes : List ℕ) (shown : ℕ) → length bytes ≡ 8192 → shown ≤ 8192 → Small bytes → (n : ℕ) → Sound (single (ram_of bytes shown) n)
+ram_kept bytes shown whole within small = single_sound _ (front_sound _ _ _ _ (record { whole = whole; within = within; small = small }) (lit< tt))
+
+pub rom_kept : (bytes : List ℕ) (shown : ℕ) → length bytes ≡ 8192 → shown ≤ 8192 → Small bytes → (n : ℕ) → Sound (single (rom_of bytes shown) n)
+rom_kept bytes shown whole within small = single_sound _ (front_sound _ _ _ _ (record { whole = whole; within = within; small = small }) (lit< tt))
+
+pub arrays_sound : (bytes masks : List ℕ) → length bytes ≡ 256 → length masks ≡ 256 → Small bytes → Small masks → Sound (registers_of bytes masks)
+arrays_sound bytes masks whole level small narrow =
+    record {
+      short = omega arith;
+      level = level ∙ sym whole;
+      small = small;
+      narrow = narrow;
+    }
+
+pub registers_kept : (bytes masks : List ℕ) → length bytes ≡ 256 → length masks ≡ 256 → Small bytes → Small masks → (n : ℕ) → Sound (single (registers_of bytes masks) n)
+registers_kept bytes masks whole level small narrow = single_sound _ (arrays_sound bytes masks whole level small narrow)
