@@ -6,7 +6,7 @@ use Rattle.changes.proofs.read.count_lines.Goals as goal
 
 pub returns-in_err-after : goal.returns-in_err-after
 returns-in_err-after c =
-    rw c.from-residual.ensures
+    rw c.from_residual.ensures
     (λ ds s. let t = stopped _ _ _ c.loop-rest.invariant.0 c.in_err-after.ensures ds s in false-eqb _ 0 c.loop-rest-test.ensures (ap length t.1))
 
 pub loop-rest-smaller : goal.loop-rest-smaller

@@ -13,7 +13,7 @@ use Rattle.edits.proofs.apply.edit.Goals as goal
 pub returns-in_err-table : goal.returns-in_err-table
 unfolding edit_refusal
 returns-in_err-table c =
-    let p = err_from_is_err_and c.from-residual.result c.from-residual.ensures.1 in
+    let p = err_from_is_err_and c.from_residual.result c.from_residual.ensures.1 in
     let t = model_of c.args.tree.now.table in
     let h = c.in_err-table.ensures in
     rw (p.1, p.2) (record {
@@ -29,7 +29,16 @@ invariant_of-tree c =
     let h = c.in_ok-table.ensures in
     let e = c.args.edit in
     let sound = subst Sound (sym h.1) (sound_edit c.args.backing t e (passes (edit_rows c.args.backing t e) h.0) (sound_tree c.args.tree.now)) in
-    (h.2.numbered, (h.2.rows, (h.2.fits, (from_fine _ sound.fine, (from_low _ sound.well.low, (sound.well.single, (sound.well.ranked, (sound.short, tt))))))))
+    record {
+      numbered = h.2.numbered;
+      rows = h.2.rows;
+      fits = h.2.fits;
+      sizes = from_fine _ sound.fine;
+      offsets = from_low _ sound.well.low;
+      single = sound.well.single;
+      ranked = sound.well.ranked;
+      short = sound.short;
+    }
 
 pub returns : goal.returns
 unfolding edit_refusal

@@ -10,10 +10,10 @@ use Rattle.edits.specs.Edited.{with_order, edited}
 use Rattle.edits.specs.Rows.{Row, edit_rows, is_container}
 use Rattle.edits.proofs.Sound.{Passed, unrefused, refused, passed_then, known, tested_changed}
 use Rattle.edits.proofs.changes.attach.Goals as goal
-use Rattle.edits.proofs.changes.attach.Goals.{In-ok-check_container}
+use Rattle.edits.proofs.changes.attach.Goals.{In_ok-check_container}
 
 -- the rows above that of attached regions
-five : (c : goal.In-ok-check_container) (b : Backing) → Passed (take 5 (edit_rows b (model_of c.args.tree.now.table) (Attach c.args.number c.args.parent c.args.offset c.args.priority)))
+five : (c : goal.In_ok-check_container) (b : Backing) → Passed (take 5 (edit_rows b (model_of c.args.tree.now.table) (Attach c.args.number c.args.parent c.args.offset c.args.priority)))
 five c b =
     let t = model_of c.args.tree.now.table in
     let child = c.in_ok-check_region.ensures in
@@ -33,9 +33,9 @@ five c b =
 
 pub returns-in_err-check_unattached : goal.returns-in_err-check_unattached
 returns-in_err-check_unattached c b =
-    let p = err_from_is_err_and c.from-residual-in_err-check_unattached.result c.from-residual-in_err-check_unattached.ensures.1 in
+    let p = err_from_is_err_and c.from_residual-in_err-check_unattached.result c.from_residual-in_err-check_unattached.ensures.1 in
     let rows = edit_rows b (model_of c.args.tree.now.table) (Attach c.args.number c.args.parent c.args.offset c.args.priority) in
-    rw (p.1, p.2) (passed_then (take 5 rows) (drop 5 rows) (five (goal.at.returns-in_err-check_unattached c).In-ok-check_container b) ∙ refused _ _ _ _ _ c.in_err-check_unattached.ensures)
+    rw (p.1, p.2) (passed_then (take 5 rows) (drop 5 rows) (five (goal.at.returns-in_err-check_unattached c).In_ok-check_container b) ∙ refused _ _ _ _ _ c.in_err-check_unattached.ensures)
 
 pub returns : goal.returns
 unfolding edited
@@ -44,5 +44,5 @@ returns c b =
     let e = Attach c.args.number c.args.parent c.args.offset c.args.priority in
     let same = ap (λ i. with_order t (inserted (record { child = c.args.number; parent = c.args.parent; offset = c.args.offset; priority = i }) t.attachments)) (to_z-of_z w16 c.args.priority c.ranges.priority) in
     let rows = edit_rows b t e in
-    let six = All-append (λ (r : Row). r.0 ≡ false) (take 5 rows) (take 1 (drop 5 rows)) (five (goal.at.returns c).In-ok-check_container b) (unrefused _ _ _ _ c.in_ok-check_unattached.ensures, tt) in
+    let six = All-append (λ (r : Row). r.0 ≡ false) (take 5 rows) (take 1 (drop 5 rows)) (five (goal.at.returns c).In_ok-check_container b) (unrefused _ _ _ _ c.in_ok-check_unattached.ensures, tt) in
     tested_changed b t e (take 6 rows) _ _ refl six same c.with_attachment.ensures

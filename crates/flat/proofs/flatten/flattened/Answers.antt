@@ -6,7 +6,12 @@ invariant_of-result g c =
     let f = g.S.Source.shows c.args.source.now in
     let w = c.in-Ok.ensures.stands.1 in
     let rows = c.sweep.auto.table in
-    (rows, (swept_fits f c.args.size _ c.sweep.new.table c.in-Ok.count rows w, (swept_rises f c.args.size _ c.sweep.new.table c.in-Ok.count rows w, (swept_settled f c.args.size _ c.sweep.new.table c.in-Ok.count rows w, tt))))
+    record {
+      rows = rows;
+      fits = swept_fits f c.args.size _ c.sweep.new.table c.in-Ok.count rows w;
+      rises = swept_rises f c.args.size _ c.sweep.new.table c.in-Ok.count rows w;
+      apart = swept_settled f c.args.size _ c.sweep.new.table c.in-Ok.count rows w;
+    }
 
 pub returns-in-Ok : goal.returns-in-Ok
 returns-in-Ok g c =
