@@ -15,7 +15,9 @@ import sys
 
 WORD = r"[^\s(){}\[\],;.:λ→=`\"«»]+"
 TOKEN = re.compile(WORD)
-DECLARATION = re.compile(r"\s*(?:(?:abbrev|unfoldable|pub|data|record|ruleset|mutual)\s+)*(" + WORD + r")\s*(?:\([^=]*?\)\s*)*:\s*(.*)$")
+DECLARATION = re.compile(r"\s*(?:(?:abbrev|unfoldable|pub|data|record|ruleset|mutual)\s+)*(" + WORD + r")\s*(?:[({][^=]*?[)}]\s*)*:\s*(.*)$")
+# A name that an import gives a definition; it is spelled as that definition is.
+ALIAS = re.compile(r"(" + WORD + r") as (" + WORD + r")")
 # Variables of joined branches: Rattle makes `w.count-is` of a variable `count`.
 MADE = re.compile(r"(?<![\w-])w\.$")
 
@@ -38,6 +40,19 @@ def declared():
                 m = DECLARATION.match(line.rstrip("\n"))
                 if m and not re.match(r"(goal|need)\.", m.group(2)):
                     found.add(m.group(1))
+    return found
+
+
+def aliases():
+    found = {}
+    for path in files(".antt", ".rt"):
+        with open(path, encoding="utf-8") as text:
+            for line in text:
+                if "use Rattle." in line:
+                    for name, alias in ALIAS.findall(line):
+                        if "-" in alias:
+                            lower = name[0].islower()
+                            found[alias] = respelled(alias[0].lower() + alias[1:] if lower else alias)
     return found
 
 
@@ -70,6 +85,7 @@ def comment_start(line, rt):
 def main():
     names = declared()
     new = {n: respelled(n) for n in names if respelled(n) != n}
+    new.update(aliases())
     by_new = {}
     for n in names:
         by_new.setdefault(respelled(n), []).append(n)

@@ -1,12 +1,12 @@
 -- Laws of a device that is the front of an array, as RAM and ROM have it.
-use Rattle.std.proofs.Common.{◌≡◌, ℕ, zero, suc, ◌+◌, ◌<◌, ◌≤◌, min, ◌⊎◌, List, [], ◌∷◌, ◌++◌, length, get_or, take, set, replicate, Some, sym, refl, ap, ◌∙◌, inl, inr, arith, lit<}
-use Rattle.std.proofs.lemmas.List.{length-take, length-take-le, length-replicate, length-set, get_or-take, get_or-replicate, take-replicate, take_all, take_more, take_more_set}
+use Rattle.std.proofs.Common.{◌≡◌, ℕ, zero, suc, ◌+◌, ◌<◌, ◌≤◌, min, ◌⊎◌, List, [], ◌∷◌, ◌++◌, length, get_or, take, set, replicate, Some, sym, refl, ap, ◌∙◌, inl, inr, arith}
+use Rattle.std.proofs.lemmas.List.{length-take, length-set, get_or-take, get_or-replicate, take-replicate, take_all, take_more, take_more_set}
 use Rattle.std.proofs.lemmas.Bool.{cases_lt}
 use Rattle.std.proofs.lemmas.Bool.Decides.{nat_tests}
 use Rattle.std.specs.List.{slice_get}
 use Rattle.model.specs.declared.kinds.Kind.{Kind}
 use Rattle.model.specs.declared.kinds.Kind.TheVariants.{Ram as Ram', Rom as Rom'}
-use Rattle.bank.specs.Devices.{Device, Sound, masked, put, single, wrote}
+use Rattle.bank.specs.Devices.{Device, masked, put, single, wrote}
 use Rattle.bank.specs.Banks.{front, ram_of, rom_of, shown_for, zeroed, burnt}
 use Rattle.bank.specs.Soundness.{Small, Held, front_long, front_sound}
 use Rattle.bank.proofs.Mixes.{set_small}

@@ -1,5 +1,5 @@
 -- Bytes, lists of bytes, and bytes mixed under a mask.
-use Rattle.std.proofs.Common.{◌≡◌, ℕ, zero, suc, ◌-◌, ◌<◌, List, [], ◌∷◌, get_or, take, set, replicate, ap, ◌∙◌, mod-eq_of_lt, arith}
+use Rattle.std.proofs.Common.{◌≡◌, ℕ, zero, suc, ◌-◌, ◌<◌, List, [], ◌∷◌, set, ap, ◌∙◌, mod-eq_of_lt, arith}
 use lib.Bits.{bit_and, bit_or}
 use Rattle.std.proofs.lemmas.Nat.{and_comm, and_le_l, and_mask, or_comm, or_lt}
 use Rattle.bank.specs.Devices.{masked}

@@ -1,7 +1,7 @@
 // Writing change lists.
 ghost use Rattle.std.specs.Prelude.{◌≡◌, length, Decides};
 ghost use Rattle.lexis.specs.Shown.{shown};
-ghost use Rattle.changes.specs.Lines.{line as written-line};
+ghost use Rattle.changes.specs.Lines.{line as written_line};
 ghost use Rattle.changes.specs.Calls.{Fits, Written};
 
 use crate::parts::{range_of, sign_of};
@@ -13,7 +13,7 @@ use model::changes::Change;
 
 // The line of a change, with its line feed.
 pub fn line_of(change: &Change) -> Line
-    ensures { shown result ≡ written-line change.now }
+    ensures { shown result ≡ written_line change.now }
 {
     let range = range_of(change);
     let place = range.label;

@@ -9,8 +9,8 @@ use Rattle.model.specs.declared.changes.Change.{Change}
 use Rattle.model.specs.declared.changes.Change.TheVariants.{Removal, Addition}
 use Rattle.model.specs.declared.faults.Fault.TheVariants.{ListShort}
 use Rattle.model.specs.Ranges.{Range}
-use Rattle.replay.specs.CarryOut.{and_then as then-carry, carry_from}
-use Rattle.diff.specs.ChangeLists.{missing, changes, counts as Counts-of, list_answer, list_after}
+use Rattle.replay.specs.CarryOut.{and_then as then_carry, carry_from}
+use Rattle.diff.specs.ChangeLists.{missing, changes, counts as counts_of, list_answer, list_after}
 use Rattle.diff.specs.declared.counts.Counts.{Counts}
 use Rattle.diff.specs.Laws.{entries, and_then, carry_out, all_changes, last_map, is_removal, is_addition, Replays, Succeeds, RunsReplay, Counted, Fewest, ToldByKind}
 use Rattle.diff.proofs.Carrying.{carry_append}
@@ -29,7 +29,7 @@ count_none : {X Y : Type 0} (p : Y → Bool) (f : X → Y) → ((x : X) → p (f
 count_none p f h [] = refl
 count_none p f h (x ∷ xs) = let one = sum_by-cons (λ y. cond (p y) 1 0) (f x) (map f xs) ∙ ap (λ b. cond b 1 0 + count_by p (map f xs)) (h x) in let ih = count_none p f h xs in omega arith
 
-pub counted_changes : (old new : List Range) → Counted (Counts-of old new) (changes old new)
+pub counted_changes : (old new : List Range) → Counted (counts_of old new) (changes old new)
 counted_changes old new =
     let outs = missing old new in
     let ins = missing new old in
@@ -48,7 +48,7 @@ succeeds old new up up' =
     let cs = changes old new in
     record {
       gives = λ before led. carry_append before cs [] ∙ ap (λ o. and_then o (carry_out cs)) led ∙ laws.gives;
-      in_table = λ room before a b led. from_append room 0 before cs [] ∙ ap (λ r. then-carry r (carry_from room (0 + length before) cs)) led ∙ laws.in_table room _ a b;
+      in_table = λ room before a b led. from_append room 0 before cs [] ∙ ap (λ r. then_carry r (carry_from room (0 + length before) cs)) led ∙ laws.in_table room _ a b;
     }
 
 -- from any map on
@@ -61,7 +61,7 @@ pub runs_in_table : (room i : ℕ) (old : List Range) (maps : List (List Range))
 runs_in_table room i old [] up fit ups fits = refl
 runs_in_table room i old (new ∷ maps) up fit ups fits =
     from_append room i (changes old new) (all_changes new maps) old
-    ∙ ap (λ r. then-carry r (carry_from room (i + length (changes old new)) (all_changes new maps))) ((replays 0 0 old new up ups.0).in_table room i fit fits.0)
+    ∙ ap (λ r. then_carry r (carry_from room (i + length (changes old new)) (all_changes new maps))) ((replays 0 0 old new up ups.0).in_table room i fit fits.0)
     ∙ runs_in_table room (i + length (changes old new)) new maps ups.0 fits.0 ups.1 fits.1
 
 pub runs_replay : RunsReplay
@@ -83,11 +83,11 @@ pub record Promised (old new : List Range) (c : Counts) (list : List Change) : T
   pub successive : Succeeds old new (entries c list)
   pub kinds : ToldByKind old new (entries c list)
 
-promised : (old new : List Range) (list past : List Change) → rising 0 old ≡ true → rising 0 new ≡ true → list ≡ changes old new ++ past → Promised old new (Counts-of old new) list
+promised : (old new : List Range) (list past : List Change) → rising 0 old ≡ true → rising 0 new ≡ true → list ≡ changes old new ++ past → Promised old new (counts_of old new) list
 promised old new list past up up' is =
-    let these : changes old new ≡ entries (Counts-of old new) list = sym (ap (entries (Counts-of old new)) is ∙ take_at (changes old new) past _ (length_changes old new)) in
+    let these : changes old new ≡ entries (counts_of old new) list = sym (ap (entries (counts_of old new)) is ∙ take_at (changes old new) past _ (length_changes old new)) in
     record {
-      counts = subst (Counted (Counts-of old new)) these (counted_changes old new);
+      counts = subst (Counted (counts_of old new)) these (counted_changes old new);
       replays = subst (Replays old new) these (replays 0 0 old new up up');
       fewest = subst (Fewest old new) these (fewest old new (rising_distinct 0 old up) (rising_distinct 0 new up'));
       successive = subst (Succeeds old new) these (succeeds old new up up');
@@ -95,7 +95,7 @@ promised old new list past up up' is =
     }
 
 -- The call: it is refused if the entries do not fit, else the list holds them.
-module _ (old new : List Range) (c : Counts) (was : List Change) (is : c ≡ Counts-of old new) where
+module _ (old new : List Range) (c : Counts) (was : List Change) (is : c ≡ counts_of old new) where
   all : c.removed + c.added ≡ length (changes old new)
   all = ap (λ n. n.removed + n.added) is ∙ sym (length_changes old new)
 

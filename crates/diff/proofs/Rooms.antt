@@ -8,18 +8,18 @@ use Rattle.model.specs.declared.changes.Change.TheVariants.{Removal, Addition}
 use Rattle.model.specs.Ranges.{Range, same_range, listed, without}
 use Rattle.replay.specs.declared.failures.Failure.{Failure}
 use Rattle.replay.specs.declared.failures.Failure.TheVariants.{Entry, Full}
-use Rattle.replay.specs.CarryOut.{carried, fit, and_then as then-carry, carry_from}
+use Rattle.replay.specs.CarryOut.{carried, fit, and_then as then_carry, carry_from}
 use Rattle.diff.specs.ChangeLists.{missing, changes}
 use Rattle.diff.specs.Laws.{carry_out, Replays, OneRule}
 use Rattle.diff.proofs.Carrying.{stepped, step, removed_held, added_free, removals_done, additions_done, changes_done}
 
-pub from_append : (room i : ℕ) (cs ds : List Change) (h : List Range) → carry_from room i (cs ++ ds) h ≡ then-carry (carry_from room i cs h) (carry_from room (i + length cs) ds)
+pub from_append : (room i : ℕ) (cs ds : List Change) (h : List Range) → carry_from room i (cs ++ ds) h ≡ then_carry (carry_from room i cs h) (carry_from room (i + length cs) ds)
 from_append room i [] ds h = ap (λ n. carry_from room n ds h) (sym (add-zero i))
 from_append room i (c ∷ cs) ds h = go (fit room i (carried c h)) (λ k. from_append room (i + 1) cs ds k)
   where
-    go : (r : Result (List Range) Failure) → ((k : List Range) → carry_from room (i + 1) (cs ++ ds) k ≡ then-carry (carry_from room (i + 1) cs k) (carry_from room (i + 1 + length cs) ds))
-        → then-carry r (carry_from room (i + 1) (cs ++ ds)) ≡ then-carry (then-carry r (carry_from room (i + 1) cs)) (carry_from room (i + suc (length cs)) ds)
-    go (Ok k) rest = let n : i + 1 + length cs ≡ i + suc (length cs) = omega arith in rest k ∙ ap (λ m. then-carry (carry_from room (i + 1) cs k) (carry_from room m ds)) n
+    go : (r : Result (List Range) Failure) → ((k : List Range) → carry_from room (i + 1) (cs ++ ds) k ≡ then_carry (carry_from room (i + 1) cs k) (carry_from room (i + 1 + length cs) ds))
+        → then_carry r (carry_from room (i + 1) (cs ++ ds)) ≡ then_carry (then_carry r (carry_from room (i + 1) cs)) (carry_from room (i + suc (length cs)) ds)
+    go (Ok k) rest = let n : i + 1 + length cs ≡ i + suc (length cs) = omega arith in rest k ∙ ap (λ m. then_carry (carry_from room (i + 1) cs k) (carry_from room m ds)) n
     go (Err e) rest = refl
 
 -- the first entry of a list that a table carries out, and the others
@@ -33,17 +33,17 @@ pub from_stepped : (room i : ℕ) (c : Change) (cs : List Change) (h k : List Ra
 from_stepped room i c cs h k e = go (carried c h) refl
   where
     go : (o : Option (List Range)) → carried c h ≡ o → FromStep room i c cs h k
-    go None is = absurd (let never : Err (Entry i) ≡ Ok k = sym (ap (λ o. then-carry (fit room i o) (carry_from room (i + 1) cs)) is) ∙ e in let z : ◌≡◌ {A = ℕ} 0 1 = cc in omega arith)
+    go None is = absurd (let never : Err (Entry i) ≡ Ok k = sym (ap (λ o. then_carry (fit room i o) (carry_from room (i + 1) cs)) is) ∙ e in let z : ◌≡◌ {A = ℕ} 0 1 = cc in omega arith)
     go (Some n) is =
-        let on = sym (ap (λ o. then-carry (fit room i o) (carry_from room (i + 1) cs)) is) ∙ e in
+        let on = sym (ap (λ o. then_carry (fit room i o) (carry_from room (i + 1) cs)) is) ∙ e in
         elim (cases_Bool (leb (length n) room)) [
-          | inl fits ↦ record { next = n; first = is; fits = leb-true _ _ fits; rest = sym (ap (λ r. then-carry r (carry_from room (i + 1) cs)) (cond-true (leb (length n) room) (Ok n) (Err (Full i)) fits)) ∙ on }
-          | inr full ↦ absurd (let never : Err (Full i) ≡ Ok k = sym (ap (λ r. then-carry r (carry_from room (i + 1) cs)) (cond-false (leb (length n) room) (Ok n) (Err (Full i)) full)) ∙ on in let z : ◌≡◌ {A = ℕ} 0 1 = cc in omega arith)
+          | inl fits ↦ record { next = n; first = is; fits = leb-true _ _ fits; rest = sym (ap (λ r. then_carry r (carry_from room (i + 1) cs)) (cond-true (leb (length n) room) (Ok n) (Err (Full i)) fits)) ∙ on }
+          | inr full ↦ absurd (let never : Err (Full i) ≡ Ok k = sym (ap (λ r. then_carry r (carry_from room (i + 1) cs)) (cond-false (leb (length n) room) (Ok n) (Err (Full i)) full)) ∙ on in let z : ◌≡◌ {A = ℕ} 0 1 = cc in omega arith)
         ]
 
 pub from_step : (room i : ℕ) (c : Change) (cs : List Change) (h next : List Range) → carried c h ≡ Some next → length next ≤ room → carry_from room i (c ∷ cs) h ≡ carry_from room (i + 1) cs next
 from_step room i c cs h next e le =
-    ap (λ o. then-carry (fit room i o) (carry_from room (i + 1) cs)) e ∙ ap (λ r. then-carry r (carry_from room (i + 1) cs)) (cond-true _ _ _ (le-leb _ _ le))
+    ap (λ o. then_carry (fit room i o) (carry_from room (i + 1) cs)) e ∙ ap (λ r. then_carry r (carry_from room (i + 1) cs)) (cond-true _ _ _ (le-leb _ _ le))
 
 pub length_without : (xs : List Range) (r : Range) → length (without xs r) ≤ length xs
 length_without [] r = omega arith
@@ -101,6 +101,6 @@ replays low low' old new up up' = record {
       let outs = map Removal (missing old new) in
       let ins = map Addition (missing new old) in
       from_append room i outs ins old
-      ∙ ap (λ r. then-carry r (carry_from room (i + length outs) ins)) (removals_fit room i (missing old new) old (filter (listed old) new) (removals_done low low' old new up up') a)
+      ∙ ap (λ r. then_carry r (carry_from room (i + length outs) ins)) (removals_fit room i (missing old new) old (filter (listed old) new) (removals_done low low' old new up up') a)
       ∙ additions_fit room (i + length outs) (missing new old) (filter (listed old) new) new (additions_done low low' old new up up') b;
 }

@@ -1,6 +1,6 @@
 // The change list between two maps.
 ghost use Rattle.std.specs.Prelude.{◌≡◌, ◌≤◌, ◌++◌, length, drop, IfOk};
-ghost use Rattle.diff.specs.ChangeLists.{ranges, changes, counts as Counts-of, list_answer, list_after};
+ghost use Rattle.diff.specs.ChangeLists.{ranges, changes, counts as counts_of, list_answer, list_after};
 ghost use Rattle.diff.specs.Laws.{entries, Replays, Succeeds, RunsReplay, OneRule, Counted, Fewest, ToldByKind};
 
 use crate::actions::Action;
@@ -13,7 +13,7 @@ use model::places::Place;
 
 // Counts the entries of the list.
 fn count_changes(old: &Ordered<Place>, new: &Ordered<Place>) -> Counts
-    ensures { result ≡ Counts-of (ranges old.now) (ranges new.now) }
+    ensures { result ≡ counts_of (ranges old.now) (ranges new.now) }
 {
     Counts {
         removed: count_missing(old.live, new.live),

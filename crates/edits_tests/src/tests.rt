@@ -239,7 +239,8 @@ fn the_last_attached_or_moved_leads_its_equals(rt: HostRuntime) -> Result<(), Fa
         &mut tree,
         &[attach(1, 0, Ok(())), attach(2, 0, Ok(()))],
     );
-    assert_eq!(rt; tree.table.order[0].child, 2);
+    let first = tree.table.order[0].child;
+    assert_eq!(rt; first, 2);
     assert_eq!(rt;
         edit(
             &mut tree,
@@ -262,7 +263,9 @@ fn the_last_attached_or_moved_leads_its_equals(rt: HostRuntime) -> Result<(), Fa
         ),
         Ok(())
     );
-    assert_eq!(rt; tree.table.order[0].child, 1);
-    assert_eq!(rt; tree.table.order[2].child, 3);
+    let first = tree.table.order[0].child;
+    assert_eq!(rt; first, 1);
+    let last = tree.table.order[2].child;
+    assert_eq!(rt; last, 3);
     Ok(())
 }

@@ -1,7 +1,7 @@
 -- The map that a sweep leaves.
 use Rattle.std.proofs.Common.{◌≡◌, ℕ, ◌^◌, ◌≤◌, true, false, leb, List, length, take, None, Ok, Option, Result, sym, refl, ap, ◌∙◌, subst, inl, inr, arith, lit<, length-take}
 use Rattle.std.proofs.lemmas.Bool.{and_parts, leb-true, le-leb, lt-ltb, le-ltb, cond-true, cond-false, cases_lt}
-use Rattle.interval.specs.Laws.{Holds-maximal}
+use Rattle.interval.specs.Laws.{HoldsMaximal}
 use Rattle.interval.specs.Stretches.{rising, at}
 use Rattle.interval.proofs.Only.{only}
 use Rattle.sweep.specs.Laws.{below}
@@ -36,7 +36,7 @@ own_map m = only_map (at moved (ranges_of m)) (ranges_of m) (record { order = m.
 pub stretches_map : (f : ℕ → Option Place) (size : ℕ) → size ≤ 2 ^ 40 → IsMap (below size f) (stretches moved same_place f 0 size)
 stretches_map f size top = maximal moved same_place place_laws f size top
 
-module _ (f : ℕ → Option Place) (size : ℕ) (was now : List Range) (n : ℕ) (rows : length now ≡ 256) (w : Holds-maximal moved same_place (below size f) was now n) where
+module _ (f : ℕ → Option Place) (size : ℕ) (was now : List Range) (n : ℕ) (rows : length now ≡ 256) (w : HoldsMaximal moved same_place (below size f) was now n) where
   pub swept_fits : n ≤ 256
   swept_fits = let h = leb-true _ _ (and_parts (leb n (length now)) _ w.stands.order).0 in omega arith
 

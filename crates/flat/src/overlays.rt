@@ -5,7 +5,7 @@ ghost use Rattle.sweep.specs.Sights.{Sees};
 ghost use Rattle.model.specs.Places.{moved};
 ghost use Rattle.flat.specs.Laws.{Flattened};
 ghost use Rattle.flat.specs.Maps.{ranges_of, fitting, told};
-ghost use Rattle.flat.specs.Overlays.{over, overlay as the-overlay, OverlayLaws};
+ghost use Rattle.flat.specs.Overlays.{over, overlay as the_overlay, OverlayLaws};
 
 use crate::flat_map::FlatMap;
 use crate::flatten::flattened;
@@ -66,7 +66,7 @@ impl FlatMap {
     // This map over the lower one, if that has at most 256 ranges: of every address the first place
     // found.
     pub fn overlay(&self, lower: &FlatMap) -> Result<FlatMap, Fault>
-        ensures is { told result ≡ fitting (the-overlay (ranges_of self.now) (ranges_of lower.now)) }
+        ensures is { told result ≡ fitting (the_overlay (ranges_of self.now) (ranges_of lower.now)) }
         ensures stands { Flattened (over (at moved (ranges_of self.now)) (at moved (ranges_of lower.now))) result }
         ensures laws { OverlayLaws }
     {

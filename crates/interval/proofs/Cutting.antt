@@ -1,5 +1,5 @@
 -- A cut of a rising list: the stretches before and after the span stay, and of those that meet it two pieces do.
-use Rattle.std.proofs.Common.{◌≡◌, ℕ, zero, suc, ◌+◌, ◌-◌, ◌<◌, ◌≤◌, true, false, ltb, leb, List, [], ◌∷◌, ◌++◌, length, get_or, take, drop, None, sym, refl, ap, ◌∙◌, inl, inr, append_assoc, one-add, arith}
+use Rattle.std.proofs.Common.{◌≡◌, ℕ, zero, suc, ◌+◌, ◌<◌, ◌≤◌, true, false, ltb, leb, List, [], ◌∷◌, ◌++◌, length, get_or, take, drop, None, sym, refl, ap, ◌∙◌, inl, inr, append_assoc, one-add, arith}
 use Rattle.std.proofs.lemmas.Bool.{and_parts, and_from, and_right, or_left, or_right, or_from, le-leb, lt-leb, lt-ltb, le-ltb, cond-true, cond-false, cases_lt}
 use Rattle.std.specs.Option.{option_to_list}
 use Rattle.interval.specs.declared.stretches.Stretch.{Stretch}

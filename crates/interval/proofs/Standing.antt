@@ -7,7 +7,7 @@ use Rattle.interval.specs.declared.refusals.Refusal.TheVariants.{Empty, High, Di
 use Rattle.interval.specs.declared.stretches.Stretch.{Stretch}
 use Rattle.interval.specs.Calls.{checked, fitted, counted, written, put_goal, cut_goal, paint_goal}
 use Rattle.interval.specs.Edits.{free, put, cut, paint, runs_on, merged, join_from, join}
-use Rattle.interval.specs.Laws.{Stands, Edited, Laid, WasFree, CutOut, Settled, Maximal, Holds-maximal}
+use Rattle.interval.specs.Laws.{Stands, Edited, Laid, WasFree, CutOut, Settled, Maximal, HoldsMaximal}
 use Rattle.interval.specs.Stretches.{rising, ready, stop, at}
 use Rattle.interval.proofs.Answered.{passed}
 use Rattle.interval.proofs.AtLaws.{at_put, at_cut, at_paint, at_join, at_free, at_taken, free_cut}
@@ -125,7 +125,7 @@ module _ {L : Type 0} (adv : L → ℕ → L) (same : L → L → Bool) where
 
   module _ (zero : (x : L) → adv x 0 ≡ x) (sum : (x : L) (i j : ℕ) → adv (adv x i) j ≡ adv x (i + j)) (exact : (x y : L) → Decides (same x y) (x ≡ y)) where
     -- a list that is maximal, written into the front of the table
-    pub holds_maximal : (shows : ℕ → Option L) (table ys now : List (Stretch L)) (n : ℕ) → length ys ≤ length table → Maximal adv same shows ys → n ≡ length ys → now ≡ ys ++ drop n table → Holds-maximal adv same shows table now n
+    pub holds_maximal : (shows : ℕ → Option L) (table ys now : List (Stretch L)) (n : ℕ) → length ys ≤ length table → Maximal adv same shows ys → n ≡ length ys → now ≡ ys ++ drop n table → HoldsMaximal adv same shows table now n
     holds_maximal shows table ys now n fits m count after =
         let front : ys ≡ take n now = sym (ap (take n) after ∙ take_at ys (drop n table) n (sym count)) in
         record {
@@ -135,7 +135,7 @@ module _ {L : Type 0} (adv : L → ℕ → L) (same : L → L → Bool) where
         }
 
     pub join_stands : (table now : List (Stretch L)) (used n : ℕ) → ready table used ≡ true → n ≡ length (join adv same (take used table)) → now ≡ join adv same (take used table) ++ drop n table
-        → Holds-maximal adv same (at adv (take used table)) table now n
+        → HoldsMaximal adv same (at adv (take used table)) table now n
     join_stands table now used n ok count after =
         let q = and_parts (leb used (length table)) _ ok in
         let w = leb-true _ _ q.0 in

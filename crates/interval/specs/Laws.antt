@@ -66,12 +66,12 @@ pub record Maximal {L : Type 0} (advanced : L → ℕ → L) (same : L → L →
   pub labels : (a : ℕ) → at advanced xs a ≡ shows a
 
 -- the first `n` records stand for what `shows` says, none runs on, and no other list is like them
-pub record Holds-maximal {L : Type 0} (advanced : L → ℕ → L) (same : L → L → Bool) (shows : ℕ → Option L) (was now : List (Stretch L)) (n : ℕ) : Type 0 where
+pub record HoldsMaximal {L : Type 0} (advanced : L → ℕ → L) (same : L → L → Bool) (shows : ℕ → Option L) (was now : List (Stretch L)) (n : ℕ) : Type 0 where
   pub stands : Stands advanced shows was now n
   pub settled : Settled advanced same (take n now)
   pub only : (ys : List (Stretch L)) → Maximal advanced same shows ys → ys ≡ take n now
 
 -- a join changes nothing at any address, and leaves the one list in which none runs on
 abbrev pub Joined : {L : Type 0} → (L → ℕ → L) → (L → L → Bool) → List (Stretch L) → ℕ → List (Stretch L) → Result ℕ Refusal → Type 0
-Joined advanced same was used now (Ok n) = Holds-maximal advanced same (at advanced (take used was)) was now n
+Joined advanced same was used now (Ok n) = HoldsMaximal advanced same (at advanced (take used was)) was now n
 Joined advanced same was used now (Err e) = now ≡ was

@@ -1,8 +1,8 @@
 // Joining the stretches that run on.
 ghost use Rattle.std.specs.Prelude.{◌≡◌, true, ◌++◌, length, take, drop};
 ghost use Rattle.interval.specs.Stretches.{ready, at};
-ghost use Rattle.interval.specs.Laws.{Holds-maximal, Joined};
-ghost use Rattle.interval.specs.Edits.{runs_on, join as the-join};
+ghost use Rattle.interval.specs.Laws.{HoldsMaximal, Joined};
+ghost use Rattle.interval.specs.Edits.{runs_on, join as the_join};
 ghost use Rattle.interval.specs.Calls.{counted, written, join_answer};
 
 use crate::labels::{Label, SameLabel};
@@ -19,9 +19,9 @@ pub fn runs_onto<L: SameLabel>(x: &Stretch<L>, y: &Stretch<L>) -> bool
 // Joins the live records, which are in order.
 fn join_live<L: SameLabel>(table: &mut [Stretch<L>], used: usize) -> usize
     requires { ready table.old used ≡ true }
-    ensures count { result ≡ length (the-join L.Label.advanced L.SameLabel.matches (take used table.old)) }
-    ensures after { table.new ≡ the-join L.Label.advanced L.SameLabel.matches (take used table.old) ++ drop result table.old }
-    ensures stands { Holds-maximal L.Label.advanced L.SameLabel.matches (at L.Label.advanced (take used table.old)) table.old table.new result }
+    ensures count { result ≡ length (the_join L.Label.advanced L.SameLabel.matches (take used table.old)) }
+    ensures after { table.new ≡ the_join L.Label.advanced L.SameLabel.matches (take used table.old) ++ drop result table.old }
+    ensures stands { HoldsMaximal L.Label.advanced L.SameLabel.matches (at L.Label.advanced (take used table.old)) table.old table.new result }
 {
     if used == 0 {
         return 0;

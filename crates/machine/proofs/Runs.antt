@@ -14,7 +14,7 @@ use Rattle.tree.specs.Search.{search, root_size}
 use Rattle.edits.specs.Rows.{bad_size}
 use Rattle.flat.specs.Maps.{map_of}
 use Rattle.diff.specs.declared.counts.Counts.{Counts}
-use Rattle.diff.specs.ChangeLists.{changes, counts as Counts-of}
+use Rattle.diff.specs.ChangeLists.{changes, counts as counts_of}
 use Rattle.diff.specs.Laws.{Counted, Fewest, and_then, carry_out, range_of, of_kinds, entries_of_kinds}
 use Rattle.diff.proofs.Carrying.{carry_append}
 use Rattle.diff.proofs.Fewer.{fewest}
@@ -102,7 +102,7 @@ least_by m (commit room) None list counts h e =
     let old = map_of m.committed in
     let new = map_of (draft_of m) in
     let is : changes old new ≡ list = cc in
-    let number : Counts-of old new ≡ counts = cc in
+    let number : counts_of old new ≡ counts = cc in
     let few : Fewest old new (changes old new) = fewest old new (rising_distinct 0 old h.committed) (rising_distinct 0 new h.draft) in
     subst (λ l. Least l counts old new) is (subst (λ n. Least (changes old new) n old new) number (record { counted = counted_changes old new; fewest = few }))
 least_by m drop_draft None list counts h e = absurd (let z : ◌≡◌ {A = ℕ} 0 1 = cc in omega arith)

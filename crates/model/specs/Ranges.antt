@@ -1,5 +1,5 @@
 -- Ranges, and sets of them: a set of ranges that do not overlap is written as a list rising by start.
-use Rattle.std.specs.Prelude.{Bool, true, false, cond, ◌||◌, List, [], ◌∷◌}
+use Rattle.std.specs.Prelude.{Bool, false, cond, ◌||◌, List, [], ◌∷◌}
 use Rattle.interval.specs.Stretches.{same_stretch}
 use Rattle.interval.specs.declared.stretches.Stretch.{Stretch}
 use Rattle.model.specs.declared.places.Place.{Place}

@@ -1,11 +1,9 @@
 -- Putting a range into a table.
-use Rattle.std.proofs.Common.{◌≡◌, ℕ, ◌+◌, ◌-◌, ◌^◌, ◌<◌, ◌≤◌, Bool, true, false, cond, ◌&&◌, eqb, ltb, leb, List, [], ◌∷◌, ◌++◌, length, take, drop, Some, None, Ok, Err, Option, Result, sym, refl, ap, ◌∙◌, inl, inr, arith}
+use Rattle.std.proofs.Common.{◌≡◌, ℕ, true, List, length, take, drop, Ok, Err, Result, sym, ap, ◌∙◌, arith}
 use lib.Seq.{take-append_seam}
-use Rattle.std.proofs.lemmas.Bool.{cond-true, cond-false, cases_Bool}
 use Rattle.std.proofs.lemmas.Bool.Decides.{nat_tests}
 use Rattle.interval.specs.declared.refusals.Refusal.{Refusal}
-use Rattle.interval.specs.Stretches.{ready, lawful, stop}
-use Rattle.interval.specs.Edits.{free, put}
+use Rattle.interval.specs.Stretches.{ready}
 use Rattle.interval.specs.Calls.{put_answer, counted, written}
 use Rattle.model.specs.Ranges.{Range}
 use Rattle.replay.specs.CarryOut.{added, fit, blame}

@@ -1,13 +1,13 @@
 -- Taking a range out of a table.
-use Rattle.std.proofs.Common.{◌≡◌, ℕ, ◌+◌, ◌-◌, ◌<◌, ◌≤◌, Bool, true, false, cond, ◌&&◌, leb, List, [], ◌∷◌, ◌++◌, length, take, drop, Some, Ok, sym, refl, ap, ◌∙◌, subst, inl, inr, arith, length-drop, length-take}
+use Rattle.std.proofs.Common.{◌≡◌, ℕ, ◌+◌, ◌-◌, ◌<◌, ◌≤◌, true, leb, List, [], ◌∷◌, ◌++◌, length, take, drop, Some, Ok, sym, refl, ap, ◌∙◌, subst, inl, inr, arith, length-drop, length-take}
 use lib.Seq.{paste}
-use Rattle.std.proofs.lemmas.List.{take-take, drop-take, length-append}
-use Rattle.std.proofs.lemmas.List.Edits.{take-paste, length-paste}
+use Rattle.std.proofs.lemmas.List.{take-take, drop-take}
+use Rattle.std.proofs.lemmas.List.Edits.{take-paste}
 use Rattle.std.proofs.lemmas.Bool.{and_parts, and_from, cond-true, cond-false, cases_Bool, leb-true, le-leb}
 use Rattle.interval.specs.Stretches.{rising, ready, stop}
 use Rattle.interval.proofs.Spans.{rises}
 use Rattle.interval.proofs.Orders.{rising_from, rising_down}
-use Rattle.model.specs.Ranges.{Range, same_range, listed, without}
+use Rattle.model.specs.Ranges.{Range, same_range, without}
 use Rattle.replay.specs.CarryOut.{removed, fit, Carried, Positioned}
 
 pub rising_without : (r : Range) (low : ℕ) (xs : List Range) → rising low xs ≡ true → rising low (without xs r) ≡ true

@@ -1,5 +1,5 @@
 -- Carrying out a change list on a set of ranges, which is written as a list rising by start.
-use Rattle.std.specs.Prelude.{◌≡◌, ℕ, ◌+◌, ◌<◌, Bool, true, false, cond, ◌&&◌, List, [], ◌∷◌, ◌++◌, length, take, drop, Some, None, Ok, Err, Option, Result, nat_le}
+use Rattle.std.specs.Prelude.{◌≡◌, ℕ, ◌+◌, ◌<◌, true, false, cond, ◌&&◌, List, [], ◌∷◌, ◌++◌, length, take, drop, Some, None, Ok, Err, Option, Result, nat_le}
 use Rattle.interval.specs.declared.refusals.Refusal.{Refusal}
 use Rattle.interval.specs.declared.refusals.Refusal.TheVariants as refusal
 use Rattle.interval.specs.Stretches.{ready, lawful, stop}

@@ -3,7 +3,7 @@ use Rattle.std.proofs.Common.{◌≡◌, ℕ, ◌^◌, ◌<◌, ◌≤◌, Bool,
 use Rattle.interval.specs.declared.refusals.Refusal.TheVariants.{Short}
 use Rattle.interval.specs.declared.stretches.Stretch.{Stretch}
 use Rattle.interval.specs.Calls.{fitted, counted, written}
-use Rattle.interval.specs.Laws.{Maximal, Holds-maximal}
+use Rattle.interval.specs.Laws.{Maximal, HoldsMaximal}
 use Rattle.interval.proofs.Fits.{fits, too_long}
 use Rattle.interval.proofs.Only.{only}
 use Rattle.interval.proofs.Standing.{holds_maximal}
@@ -23,7 +23,7 @@ module _ {L : Type 0} (adv : L → ℕ → L) (same : L → L → Bool) (laws : 
     pub swept_after : now ≡ written table (fitted table xs)
     swept_after = after ∙ ap (λ k. xs ++ drop k table) count ∙ sym (ap (written table) (fits table xs room))
 
-    pub swept_stands : Holds-maximal adv same (below size f) table now n
+    pub swept_stands : HoldsMaximal adv same (below size f) table now n
     swept_stands = holds_maximal adv same laws.zero laws.sum laws.exact (below size f) table xs now n room (maximal adv same laws f size top) count after
 
   module _ (over : length table < length xs) where

@@ -3,7 +3,7 @@ use Rattle.std.specs.Prelude.{◌≡◌, ℕ, ◌^◌, ◌<◌, ◌≤◌, Bool,
 use Rattle.interval.specs.declared.refusals.Refusal.{Refusal}
 use Rattle.interval.specs.declared.refusals.Refusal.TheVariants.{Empty, High, Disorder, Taken, Short}
 use Rattle.interval.specs.declared.stretches.Stretch.{Stretch}
-use Rattle.interval.specs.Laws.{Maximal, Holds-maximal}
+use Rattle.interval.specs.Laws.{Maximal, HoldsMaximal}
 
 -- what is shown below `size`, and none from there on
 abbrev pub below : {L : Type 0} → ℕ → (ℕ → Option L) → ℕ → Option L
@@ -20,5 +20,5 @@ module _ {L : Type 0} (advanced : L → ℕ → L) (same : L → L → Bool) (sh
 
   -- an accepted sweep leaves the one maximal list of what is shown below `size`, and the records past it; a refusal leaves the table as it was
   abbrev pub Swept : List (Stretch L) → List (Stretch L) → Result ℕ Refusal → Type 0
-  Swept was now (Ok n) = (size ≤ 2 ^ 40) × Holds-maximal advanced same (below size shows) was now n
+  Swept was now (Ok n) = (size ≤ 2 ^ 40) × HoldsMaximal advanced same (below size shows) was now n
   Swept was now (Err e) = (now ≡ was) × Refused was e

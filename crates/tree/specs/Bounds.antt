@@ -1,5 +1,5 @@
 -- The bounds of the numbers in a tree.
-use Rattle.std.specs.Prelude.{ℕ, ◌^◌, Bool, true, false, ◌&&◌, List, [], ◌∷◌, Some, None, Option, nat_le, nat_lt}
+use Rattle.std.specs.Prelude.{◌^◌, Bool, true, ◌&&◌, List, [], ◌∷◌, Some, None, Option, nat_le, nat_lt}
 use Rattle.tree.specs.declared.regions.Body.{Body}
 use Rattle.tree.specs.declared.regions.Body.TheVariants.{Container, Leaf, Alias}
 use Rattle.tree.specs.declared.regions.Region.{Region}

@@ -1,7 +1,7 @@
 -- A tree of regions as a plain value.
-use Rattle.std.specs.Prelude.{ℕ, Bool, true, false, cond, List, [], ◌∷◌, take, replicate, Some, None, Option, ◌==◌, slice_index_or}
+use Rattle.std.specs.Prelude.{ℕ, true, false, cond, List, [], ◌∷◌, take, replicate, Some, None, Option, ◌==◌, slice_index_or}
 use Rattle.tree.specs.declared.regions.Body.{Body}
-use Rattle.tree.specs.declared.regions.Body.TheVariants.{Container, Leaf, Alias}
+use Rattle.tree.specs.declared.regions.Body.TheVariants.{Container}
 use Rattle.tree.specs.declared.regions.Region.{Region}
 use Rattle.tree.specs.declared.regions.Attachment.{Attachment}
 use Rattle.tree.specs.declared.table.Table.{Table}

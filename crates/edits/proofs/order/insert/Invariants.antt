@@ -1,4 +1,4 @@
-use Rattle.std.proofs.Common.{◌-◌, ◌≤◌}
+use Rattle.std.proofs.Common.{◌≤◌}
 use Rattle.edits.proofs.Gap.{Gap}
 use Rattle.edits.proofs.order.insert.Given as goal
 

@@ -1,4 +1,4 @@
-use Rattle.std.proofs.Common.{◌-◌, ltb, take, length-take, rules}
+use Rattle.std.proofs.Common.{ltb, take, length-take, rules}
 use Rattle.std.proofs.lemmas.List.Sums.{prefix_len-le-length}
 use Rattle.interval.proofs.Spans.{ended_le}
 use Rattle.interval.proofs.edits.overlap.Goals as goal

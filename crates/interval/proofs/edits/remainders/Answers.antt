@@ -1,4 +1,4 @@
-use Rattle.std.proofs.Common.{◌-◌, ◌∙◌, arith, ltb-false, ltb-true}
+use Rattle.std.proofs.Common.{◌∙◌, arith, ltb-false, ltb-true}
 use Rattle.std.specs.List.{between}
 use Rattle.interval.proofs.Cutting.{first_is, last_is}
 use Rattle.interval.proofs.edits.remainders.Goals as goal
