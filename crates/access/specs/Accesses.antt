@@ -1,5 +1,5 @@
 -- Reads and writes of guest addresses, by what is shown at each address: its place, or none.
-use Rattle.std.specs.Prelude.{ℕ, zero, suc, Bool, true, false, not, ◌&&◌, ◌||◌, List, [], ◌∷◌, length, is_some, Some, None, Option, ◌==◌, nat_lt, slice_index}
+use Rattle.std.specs.Prelude.{ℕ, zero, suc, Bool, false, not, ◌&&◌, ◌||◌, List, [], ◌∷◌, is_some, Some, None, Option, ◌==◌, nat_lt, slice_index}
 use Rattle.model.specs.declared.faults.Fault.{Fault}
 use Rattle.model.specs.declared.faults.Fault.TheVariants.{BadLength, NoPlace, NoWrites}
 use Rattle.model.specs.declared.places.Place.{Place}

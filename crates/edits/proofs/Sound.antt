@@ -177,7 +177,7 @@ known t n g lt e = or_from _ _ (le-ltb 63 n (omega arith)) (ap (λ o. not (is_so
 pub known_low : (t : Model) (p : ℕ) → no_region t p ≡ false → p < 64
 known_low t p e = let h = ltb-false 63 p (or_parts (no_number p) (not (defined t p)) e).0 in omega arith
 
-fine_new : (s : ℕ) (b : Body) → bad_size s ≡ false → bounded_body b ≡ true → Fine (Some (fresh b s))
+pub fine_new : (s : ℕ) (b : Body) → bad_size s ≡ false → bounded_body b ≡ true → Fine (Some (fresh b s))
 fine_new s b ok e =
     let parts = or_parts (eqb s 0) (ltb (2 ^ 40) s) ok in
     let some = eqb-false s 0 parts.0 in

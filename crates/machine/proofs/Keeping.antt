@@ -1,12 +1,11 @@
 -- A step as the machine makes it keeps every promise.
-use Rattle.std.proofs.Common.{◌≡◌, ℕ, List, [], ◌∷◌, ◌++◌, sym, refl, ap, ◌∙◌, subst}
+use Rattle.std.proofs.Common.{◌≡◌, List, [], ◌∷◌, ◌++◌, sym, refl, ap, ◌∙◌, subst}
 use Rattle.model.specs.declared.changes.Change.{Change}
-use Rattle.model.specs.Ranges.{Range}
 use Rattle.flat.specs.Maps.{map_of}
 use Rattle.diff.specs.declared.counts.Counts.{Counts}
-use Rattle.machine.specs.Calls.{Call, read, Answer, changed, given, Opening, Machine}
+use Rattle.machine.specs.Calls.{Call, Answer, changed, Opening, Machine}
 use Rattle.machine.specs.Machine.{answer, next, run, after, opened}
-use Rattle.machine.specs.Contract.{State, Leads, Least, LawfulDraft, Mapped, Keeps, RunsAgree, Suffices}
+use Rattle.machine.specs.Contract.{State, Leads, Least, LawfulDraft, Mapped, Suffices}
 use Rattle.machine.proofs.Trees.{after_trees, committed_mapped, draft_lawful, runs_agree}
 use Rattle.machine.proofs.Runs.{step_least, replayed, heard}
 use Rattle.machine.proofs.Reading.{reads}

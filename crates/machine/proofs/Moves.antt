@@ -1,5 +1,5 @@
 -- The calls of a space, held against the machine: from what a call finds and leaves at the state to its promises.
-use Rattle.std.proofs.Common.{◌≡◌, ℕ, zero, suc, ◌<◌, ◌≤◌, Bool, true, false, cond, not, ltb, ◌⊎◌, List, [], ◌∷◌, ◌++◌, length, is_some, Some, None, Ok, Err, Option, Result, sym, refl, ap, ◌∙◌, subst, inl, inr, ⊎_elim, arith}
+use Rattle.std.proofs.Common.{◌≡◌, ℕ, zero, suc, ◌<◌, ◌≤◌, Bool, true, false, cond, not, ltb, List, [], ◌∷◌, ◌++◌, length, is_some, Some, None, Option, Result, sym, refl, ap, ◌∙◌, subst, ⊎_elim, arith}
 use mathlib.Core.Path.{fun_ext}
 use Rattle.std.specs.List.{AllByRecursion as All}
 use Rattle.std.proofs.lemmas.Bool.{cond-true, cond-false, cases_Bool, lt-ltb, le-ltb}
@@ -8,7 +8,6 @@ use Rattle.model.specs.declared.faults.Fault.{Fault}
 use Rattle.model.specs.declared.faults.Fault.TheVariants.{DraftStands, NoDraft, MapFull, ListenerFull, ListShort}
 use Rattle.model.specs.declared.places.Place.{Place}
 use Rattle.model.specs.Places.{moved}
-use Rattle.model.specs.Ranges.{Range}
 use Rattle.model.specs.Rows.{Row, first_applying, told, unless}
 use Rattle.tree.specs.declared.regions.Body.TheVariants as body
 use Rattle.tree.specs.Model.{Model, region_at, fresh}

@@ -8,7 +8,6 @@ use Rattle.tree.specs.Finds.{Finds}
 use Rattle.tree.specs.Model.{Model}
 use Rattle.tree.specs.Search.{search}
 use Rattle.tree.specs.Sights.{Agrees}
-use Rattle.edits.specs.Rows.{bad_size}
 use Rattle.edits.proofs.Sound.{Passed, passes}
 use Rattle.access.specs.Accesses.{address_rows, byte_at, bytes_from}
 use Rattle.machine.specs.Calls.{Devices, Call, read, given, Opening}

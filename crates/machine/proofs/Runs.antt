@@ -1,5 +1,5 @@
 -- What the change lists of all runs are good for.
-use Rattle.std.proofs.Common.{◌≡◌, ℕ, zero, suc, Bool, true, false, cond, ◌&&◌, ltb, List, [], ◌∷◌, ◌++◌, Some, None, Option, sym, refl, ap, ◌∙◌, subst, arith}
+use Rattle.std.proofs.Common.{◌≡◌, ℕ, zero, suc, Bool, true, false, cond, ◌&&◌, ltb, List, [], ◌∷◌, Some, None, Option, sym, refl, ap, ◌∙◌, subst, arith}
 use Rattle.std.proofs.lemmas.List.Elements.{filter-append}
 use Rattle.interval.specs.Stretches.{rising}
 use Rattle.sweep.specs.Maps.{address_before, stretches}
@@ -8,22 +8,21 @@ use Rattle.model.specs.declared.faults.Fault.{Fault}
 use Rattle.model.specs.declared.kinds.Kind.{Kind}
 use Rattle.model.specs.declared.places.Place.{Place}
 use Rattle.model.specs.Places.{moved, same_place}
-use Rattle.model.specs.Ranges.{Range}
 use Rattle.tree.specs.Model.{root_alone}
 use Rattle.tree.specs.Search.{search, root_size}
 use Rattle.edits.specs.Rows.{bad_size}
 use Rattle.flat.specs.Maps.{map_of}
 use Rattle.diff.specs.declared.counts.Counts.{Counts}
 use Rattle.diff.specs.ChangeLists.{changes, counts as counts_of}
-use Rattle.diff.specs.Laws.{Counted, Fewest, and_then, carry_out, range_of, of_kinds, entries_of_kinds}
+use Rattle.diff.specs.Laws.{Fewest, and_then, carry_out, range_of, of_kinds, entries_of_kinds}
 use Rattle.diff.proofs.Carrying.{carry_append}
 use Rattle.diff.proofs.Fewer.{fewest}
 use Rattle.diff.proofs.Members.{rising_distinct}
 use Rattle.diff.proofs.Promises.{counted_changes, told_by_kind}
 use Rattle.diff.proofs.Rooms as rooms
-use Rattle.machine.specs.Calls.{Call, begin, edit, commit, drop_draft, read, write, question, clear_log, Answer, refused, changed, given, done, Opening, Machine}
+use Rattle.machine.specs.Calls.{Call, begin, edit, commit, drop_draft, read, write, question, clear_log, changed, Opening, Machine}
 use Rattle.machine.specs.Refusals.{draft_of, refusal}
-use Rattle.machine.specs.Machine.{opened, with_draft, ends_draft, refused_next, answer_by, next_by, answer, next, run, run_answers, after, answers}
+use Rattle.machine.specs.Machine.{opened, with_draft, ends_draft, refused_next, answer_by, next_by, answer, next, run, run_answers, answers}
 use Rattle.machine.specs.Lists.{changes_in, all_changes, Replayed, Heard}
 use Rattle.machine.specs.Contract.{Least}
 use Rattle.machine.proofs.Trees.{Trees, rooted_draft_of, next_trees, opened_trees, tree_rises}

@@ -26,7 +26,7 @@ use Rattle.flat.proofs.Flattening.{map_only, map_ruled}
 use Rattle.flat.proofs.Leaves.{all_lie}
 use Rattle.machine.specs.Calls.{Call, begin, edit, commit, drop_draft, read, write, question, clear_log, Opening, Machine}
 use Rattle.machine.specs.Refusals.{backing, or_committed, draft_of, rows, refusal}
-use Rattle.machine.specs.Machine.{opened, with_draft, ends_draft, refused_next, next_by, next, run, after}
+use Rattle.machine.specs.Machine.{opened, with_draft, ends_draft, next_by, next, run, after}
 use Rattle.machine.specs.Contract.{LawfulDraft, Mapped, RunsAgree}
 
 -- a tree whose root is as it was opened

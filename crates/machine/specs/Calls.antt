@@ -1,5 +1,5 @@
 -- What is asked of a space, and what it answers.
-use Rattle.std.specs.Prelude.{◌≡◌, ℕ, Bool, List, Option}
+use Rattle.std.specs.Prelude.{ℕ, Bool, List, Option}
 use Rattle.model.specs.declared.changes.Change.{Change}
 use Rattle.model.specs.declared.faults.Fault.{Fault}
 use Rattle.model.specs.declared.kinds.Kind.{Kind}

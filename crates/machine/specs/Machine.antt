@@ -1,5 +1,5 @@
 -- The reference machine: it is fed an accepted opening and the calls with their arguments, and none of the answers.
-use Rattle.std.specs.Prelude.{ℕ, Bool, cond, ◌||◌, List, [], ◌∷◌, Some, None, Option, ◌==◌}
+use Rattle.std.specs.Prelude.{Bool, cond, ◌||◌, List, [], ◌∷◌, Some, None, Option, ◌==◌}
 use Rattle.model.specs.declared.faults.Fault.{Fault}
 use Rattle.model.specs.Faults.{row}
 use Rattle.model.specs.Ranges.{Range}

@@ -1,5 +1,5 @@
 -- The refusals of the calls. Each call has its rows in the order of their numbers, and the first that applies decides.
-use Rattle.std.specs.Prelude.{ℕ, Bool, true, false, cond, not, List, [], ◌∷◌, length, is_some, Some, None, Option, nat_le, nat_lt}
+use Rattle.std.specs.Prelude.{ℕ, true, false, cond, not, List, [], ◌∷◌, length, is_some, Some, None, Option, nat_le, nat_lt}
 use Rattle.model.specs.declared.faults.Fault.{Fault}
 use Rattle.model.specs.declared.faults.Fault.TheVariants.{DraftStands, NoDraft, BadSize, MapFull, ListenerFull, ListShort, ListenerInUse}
 use Rattle.model.specs.declared.kinds.Kind.TheVariants.{Rom}

@@ -1,18 +1,18 @@
 -- A listener that is told a change list follows the maps.
-use Rattle.std.proofs.Common.{◌≡◌, ℕ, ◌+◌, ◌≤◌, Bool, true, false, cond, not, ◌&&◌, ◌||◌, ltb, List, [], ◌∷◌, length, Some, Ok, filter, sym, refl, ap, ◌∙◌, subst, ⊎_elim, arith}
+use Rattle.std.proofs.Common.{◌≡◌, ℕ, ◌+◌, ◌≤◌, Bool, true, false, not, List, [], ◌∷◌, length, Some, Ok, sym, refl, ap, ◌∙◌, subst, ⊎_elim, arith}
 use Rattle.std.proofs.lemmas.Bool.{and_from, and_parts, cond-true, cond-false, lt-ltb, cases_Bool, or_left, or_right}
 use Rattle.interval.specs.Edits.{put}
 use Rattle.model.specs.declared.changes.Change.{Change}
 use Rattle.model.specs.declared.changes.Change.TheVariants.{Removal, Addition}
 use Rattle.model.specs.declared.kinds.Kind.{Kind}
 use Rattle.model.specs.declared.kinds.Kind.TheVariants.{Ram}
-use Rattle.model.specs.Ranges.{Range, listed, without}
+use Rattle.model.specs.Ranges.{Range}
 use Rattle.replay.specs.CarryOut.{carried, carry_from}
-use Rattle.listener.specs.Hearing.{Hearing, Kept, with_held, admits, added, removed}
-use Rattle.diff.specs.Laws.{range_of, of_kinds, entries_of_kinds, ToldByKind}
+use Rattle.listener.specs.Hearing.{Hearing, Kept, with_held, admits}
+use Rattle.diff.specs.Laws.{of_kinds, entries_of_kinds}
 use Rattle.diff.proofs.Carrying.{removed_held, added_free}
 use Rattle.diff.proofs.Rooms.{from_stepped, length_put}
-use Rattle.telling.specs.Telling.{concerns, heard, told_one, told_all, welcome, all_welcome, Follows, FollowsMaps}
+use Rattle.telling.specs.Telling.{concerns, heard, told_one, told_all, welcome, all_welcome, FollowsMaps}
 
 -- an entry of a taken kind that the held ranges let through, and for whose result there is room, is welcome
 welcomed : (h : Hearing) (c : Change) (next : List Range) → concerns h c ≡ true → carried c h.held ≡ Some next → length next ≤ h.capacity → (welcome h c ≡ true) × (heard h c ≡ with_held h next)

@@ -1,4 +1,4 @@
-use Rattle.std.proofs.Common.{◌≡◌, ◌+◌, drop, sym, refl, ap, ◌∙◌}
+use Rattle.std.proofs.Common.{◌+◌, drop, sym, refl, ap, ◌∙◌}
 use Rattle.std.proofs.lemmas.List.{at_drop_more, at_drop_all}
 use Rattle.model.specs.declared.changes.Change.TheVariants.{Removal}
 use Rattle.telling.specs.Telling.{told_all}
