@@ -1,6 +1,6 @@
 -- Lists of lines.
 use Rattle.std.proofs.Common.{◌≡◌, ℕ, ◌+◌, ◌<◌, ◌≤◌, Bool, false, List, [], ◌∷◌, ◌++◌, length, get_or, drop, set, Decides, sym, refl, ap, ◌∙◌, subst, append_assoc, append-nil, arith}
-use Rattle.std.specs.List.{AllByRecursion as All}
+use Rattle.std.specs.List.{AllByRecursion}
 use Rattle.std.proofs.lemmas.List.{append_cancel_left, length-append, set_at, drop_more, length_push, flat_map_more}
 use Rattle.std.proofs.ByRecursion.{All-push}
 use Rattle.std.proofs.lemmas.Bool.Decides.{not_from_Decides}
@@ -25,7 +25,7 @@ line_some (Addition r) z e = let f : ◌≡◌ {A = ℕ} 0 1 = cc in omega arith
 line_some (Removal r) z e = let f : ◌≡◌ {A = ℕ} 0 1 = cc in omega arith
 
 -- a list of lines that begins with the lines of cs goes on from there
-peel : (cs ds : List Change) (rest : List ℕ) → All Writable cs → All Writable ds → text_of ds ≡ text_of cs ++ rest → (es : List Change) × (ds ≡ cs ++ es) × (text_of es ≡ rest) × All Writable es
+peel : (cs ds : List Change) (rest : List ℕ) → AllByRecursion Writable cs → AllByRecursion Writable ds → text_of ds ≡ text_of cs ++ rest → (es : List Change) × (ds ≡ cs ++ es) × (text_of es ≡ rest) × AllByRecursion Writable es
 peel [] ds rest a b e = (ds, refl, e, b)
 peel (c ∷ cs) [] rest a b e = absurd (line_some c (text_of cs ++ rest) (e ∙ append_assoc (line c) (text_of cs) rest))
 peel (c ∷ cs) (d ∷ ds) rest a b e =
@@ -35,7 +35,7 @@ peel (c ∷ cs) (d ∷ ds) rest a b e =
     let r = peel cs ds rest a.1 b.1 t in
     (r.0, (λ i. s.1 i ∷ r.1 i), r.2, r.3)
 
-none_left : (es : List Change) (rest : List ℕ) → NoLine rest → All Writable es → text_of es ≡ rest → es ≡ []
+none_left : (es : List Change) (rest : List ℕ) → NoLine rest → AllByRecursion Writable es → text_of es ≡ rest → es ≡ []
 none_left [] rest n a e = refl
 none_left (c ∷ es) rest n a e = absurd (n c (line c) (text_of es) (sym e) (refl, a.0))
 
@@ -43,7 +43,7 @@ none_left (c ∷ es) rest n a e = absurd (n c (line c) (text_of es) (sym e) (ref
 pub record Sofar (bytes rest : List ℕ) (n : ℕ) : Type 0 where
   pub list : List Change
   pub split : bytes ≡ text_of list ++ rest
-  pub each : All Writable list
+  pub each : AllByRecursion Writable list
   pub count : length list ≡ n
 
 abbrev pub sofar_none : (bytes : List ℕ) → Sofar bytes bytes 0

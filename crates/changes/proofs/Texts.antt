@@ -1,6 +1,6 @@
 -- The text of a list, line by line into a buffer.
 use Rattle.std.proofs.Common.{◌≡◌, ℕ, ◌+◌, ◌-◌, ◌^◌, ◌<◌, ◌≤◌, Bool, true, false, List, [], ◌∷◌, ◌++◌, length, get_or, take, drop, Some, None, codes, Decides, Option, sym, refl, ap, ◌∙◌, subst, append_assoc, arith}
-use Rattle.std.specs.List.{AllByRecursion as All}
+use Rattle.std.specs.List.{AllByRecursion}
 use Rattle.std.proofs.lemmas.List.{length-append, take_more, take_all, take-append-drop, take_at, drop_at, drop-drop}
 use Rattle.std.proofs.ByRecursion.{All-get_or, All-more}
 use Rattle.std.proofs.lemmas.Bool.{cond-true, le-leb}
@@ -77,7 +77,7 @@ unfit P h = ((λ e. absurd (let z : ◌≡◌ {A = ℕ} 0 1 = cc in omega arith)
 
 -- the first i changes may be written, and their text of n bytes has room
 pub record Passed (cs : List Change) (room i n : ℕ) : Type 0 where
-  pub each : All Writable (take i cs)
+  pub each : AllByRecursion Writable (take i cs)
   pub count : n ≡ length (text_of (take i cs))
   pub short : n ≤ room
 
@@ -132,7 +132,7 @@ module _ (cs : List Change) (i : ℕ) (d : Change) (below : i < length cs) where
 pub all_passed : (cs : List Change) (room i n : ℕ) → length cs ≤ i → Passed cs room i n → Decides true (Fits cs room)
 all_passed cs room i n h p =
     let e = take_all i cs h in
-    ((λ t. record { each = subst (All Writable) e p.each; short = omega (arith, ap (λ l. length (text_of l)) e, p.count, p.short) }), λ f. refl)
+    ((λ t. record { each = subst (AllByRecursion Writable) e p.each; short = omega (arith, ap (λ l. length (text_of l)) e, p.count, p.short) }), λ f. refl)
 
 pub all_standing : (cs : List Change) (es : List ℕ) (i at : ℕ) (bs : List ℕ) → length cs ≤ i → Standing cs es i at bs → Holds (text_of cs) es bs at
 all_standing cs es i at bs h s =

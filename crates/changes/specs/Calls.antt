@@ -1,6 +1,6 @@
 -- What reading and writing a change list answer, and what they leave behind.
 use Rattle.std.specs.Prelude.{◌≡◌, ℕ, ◌≤◌, List, ◌++◌, length, take, drop, Some, None, Option}
-use Rattle.std.specs.List.{AllByRecursion as All}
+use Rattle.std.specs.List.{AllByRecursion}
 use Rattle.model.specs.declared.changes.Change.{Change}
 use Rattle.changes.specs.Lines.{text_of, Writable, Spells}
 
@@ -11,7 +11,7 @@ pub record Holds {A : Type 0} (xs old new : List A) (n : ℕ) : Type 0 where
 
 -- each change may be written, and the text has room
 pub record Fits (cs : List Change) (room : ℕ) : Type 0 where
-  pub each : All Writable cs
+  pub each : AllByRecursion Writable cs
   pub short : length (text_of cs) ≤ room
 
 -- the bytes are the text of the list cs and of no other, and cs has room
@@ -46,4 +46,4 @@ pub record RoundTrip : Type 0 where
   -- bytes that are read are the text of what they are read as, which may be written
   pub no_other : (bytes : List ℕ) (records records' : List Change) (n : ℕ) → Read bytes records records' (Some n) → Spells bytes (take n records')
   -- two lists that may be written have one text only if they are one list
-  pub apart : (cs ds : List Change) → All Writable cs → All Writable ds → text_of cs ≡ text_of ds → cs ≡ ds
+  pub apart : (cs ds : List Change) → AllByRecursion Writable cs → AllByRecursion Writable ds → text_of cs ≡ text_of ds → cs ≡ ds

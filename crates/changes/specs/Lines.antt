@@ -1,6 +1,6 @@
 -- The lines of a change list.
 use Rattle.std.specs.Prelude.{◌≡◌, ℕ, ◌+◌, ◌^◌, ◌<◌, ◌≤◌, false, List, [], ◌∷◌, codes}
-use Rattle.std.specs.List.{flat_map, AllByRecursion as All}
+use Rattle.std.specs.List.{flat_map, AllByRecursion}
 use Rattle.lexis.specs.Numeral.{numeral}
 use Rattle.model.specs.declared.kinds.Kind.TheVariants.{Rom}
 use Rattle.model.specs.declared.changes.Change.{Change}
@@ -61,4 +61,4 @@ pub record Writable (c : Change) : Type 0 where
 
 -- the bytes are the text of the list, and each change may be written
 abbrev pub Spells : List ℕ → List Change → Type 0
-Spells bytes cs = (bytes ≡ text_of cs) × All Writable cs
+Spells bytes cs = (bytes ≡ text_of cs) × AllByRecursion Writable cs

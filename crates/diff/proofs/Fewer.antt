@@ -1,7 +1,7 @@
 -- A change list is as short as can be: each of its ranges is in exactly one of the two sets, and a
 -- single entry alters one range.
 use Rattle.std.proofs.Common.{◌≡◌, suc, ◌+◌, ◌≤◌, Bool, true, false, cond, not, ◌&&◌, ◌||◌, List, [], ◌∷◌, ◌++◌, map, length, filter, sym, refl, ap, ◌∙◌, subst, ⊎_elim, arith}
-use Rattle.std.specs.List.{AllByRecursion as All}
+use Rattle.std.specs.List.{AllByRecursion}
 use Rattle.std.proofs.lemmas.List.{length-map, length-append}
 use Rattle.std.proofs.ByRecursion.{All-append, All-weaker}
 use Rattle.std.proofs.lemmas.Bool.{both_ways, or_left, or_right, cond-true, cond-false, cond_both, not-true, not_from_true, not_from_false, cases_Bool}
@@ -35,10 +35,10 @@ others_length r (x ∷ xs) d =
     let ih = others_length r xs d.1 in omega arith)
     (cases_same x r)
 
-all_others : (P Q : Range → Type 0) (r : Range) → ((x : Range) → same_range r x ≡ false → P x → Q x) → (xs : List Range) → All P xs → All Q (others r xs)
+all_others : (P Q : Range → Type 0) (r : Range) → ((x : Range) → same_range r x ≡ false → P x → Q x) → (xs : List Range) → AllByRecursion P xs → AllByRecursion Q (others r xs)
 all_others P Q r f [] a = tt
 all_others P Q r f (x ∷ xs) a =
-    cond_both (not (same_range r x)) (x ∷ others r xs) (others r xs) (All Q)
+    cond_both (not (same_range r x)) (x ∷ others r xs) (others r xs) (AllByRecursion Q)
     (λ e. (f x (not-true (same_range r x) e) a.0, all_others P Q r f xs a.1))
     (λ _. all_others P Q r f xs a.1)
 
@@ -48,7 +48,7 @@ unaltered (Removal r) s x e = cond-false _ _ _ e
 unaltered (Addition r) s x e = cond-false _ _ _ e
 
 -- to alter so many ranges takes as many entries
-pub at_least : (cs : List Change) (s t : Set) (xs : List Range) → Distinct xs → All (λ x. s x ≡ t x → ⊥) xs → ((r : Range) → all_altered cs s r ≡ t r) → length xs ≤ length cs
+pub at_least : (cs : List Change) (s t : Set) (xs : List Range) → Distinct xs → AllByRecursion (λ x. s x ≡ t x → ⊥) xs → ((r : Range) → all_altered cs s r ≡ t r) → length xs ≤ length cs
 at_least [] s t [] d a turns = omega arith
 at_least [] s t (x ∷ xs) d a turns = absurd (a.0 (turns x))
 at_least (c ∷ cs) s t xs d a turns =
@@ -58,7 +58,7 @@ at_least (c ∷ cs) s t xs d a turns =
     let more = others_length r xs d in
     omega arith
 
-distinct_append : (xs ys : List Range) → Distinct xs → Distinct ys → All (λ x. listed ys x ≡ false) xs → Distinct (xs ++ ys)
+distinct_append : (xs ys : List Range) → Distinct xs → Distinct ys → AllByRecursion (λ x. listed ys x ≡ false) xs → Distinct (xs ++ ys)
 distinct_append [] ys d e a = e
 distinct_append (x ∷ xs) ys d e a = (unlisted xs d.0, distinct_append xs ys d.1 e a.1)
   where
@@ -70,7 +70,7 @@ distinct_append (x ∷ xs) ys d e a = (unlisted xs d.0, distinct_append xs ys d.
         (cases_Bool (same_range w x))
 
 -- every range of a list is listed
-pub all_listed : (xs : List Range) → All (λ r. listed xs r ≡ true) xs
+pub all_listed : (xs : List Range) → AllByRecursion (λ r. listed xs r ≡ true) xs
 all_listed [] = tt
 all_listed (x ∷ xs) = (or_left _ _ (same_refl x), All-weaker (λ r. listed xs r ≡ true) (λ r. listed (x ∷ xs) r ≡ true) (λ r e. or_right (same_range x r) _ e) xs (all_listed xs))
 
@@ -78,13 +78,13 @@ all_listed (x ∷ xs) = (or_left _ _ (same_refl x), All-weaker (λ r. listed xs 
 abbrev OneSided : List Range → List Range → Range → Type 0
 OneSided xs ys r = (listed xs r ≡ true) × (listed ys r ≡ false)
 
-missing_in : (xs ys : List Range) → All (OneSided xs ys) (missing xs ys)
+missing_in : (xs ys : List Range) → AllByRecursion (OneSided xs ys) (missing xs ys)
 missing_in xs ys = go xs (all_listed xs)
   where
-    go : (zs : List Range) → All (λ r. listed xs r ≡ true) zs → All (OneSided xs ys) (missing zs ys)
+    go : (zs : List Range) → AllByRecursion (λ r. listed xs r ≡ true) zs → AllByRecursion (OneSided xs ys) (missing zs ys)
     go [] a = tt
     go (z ∷ zs) a =
-        cond_both (not (listed ys z)) (z ∷ missing zs ys) (missing zs ys) (All (OneSided xs ys))
+        cond_both (not (listed ys z)) (z ∷ missing zs ys) (missing zs ys) (AllByRecursion (OneSided xs ys))
         (λ e. ((a.0, not-true (listed ys z) e), go zs a.1))
         (λ _. go zs a.1)
 
@@ -99,7 +99,7 @@ no_fewer old new d e cs turns =
     let apart : Distinct (missing old new ++ missing new old)
     = distinct_append (missing old new) (missing new old) (distinct_kept _ old d) (distinct_kept _ new e)
     (All-weaker (OneSided old new) (λ r. listed (missing new old) r ≡ false) (λ r h. listed_missing new old r ∙ ap (λ b. b && not (listed old r)) h.1) (missing old new) outs) in
-    let differ : All (λ r. listed old r ≡ listed new r → ⊥) (missing old new ++ missing new old)
+    let differ : AllByRecursion (λ r. listed old r ≡ listed new r → ⊥) (missing old new ++ missing new old)
     = All-append (λ r. listed old r ≡ listed new r → ⊥) (missing old new) (missing new old)
     (All-weaker (OneSided old new) _ (λ r h k. both_ways (listed old r) (k ∙ h.1) h.0) (missing old new) outs)
     (All-weaker (OneSided new old) _ (λ r h k. both_ways (listed old r) h.1 (k ∙ h.0)) (missing new old) ins) in

@@ -1,6 +1,6 @@
 -- The laws of a change list, and what an accepted call has written.
 use Rattle.std.proofs.Common.{◌≡◌, ℕ, ◌+◌, ◌≤◌, Bool, true, false, cond, leb, List, [], ◌∷◌, ◌++◌, map, length, drop, Some, Ok, Err, count_by, sym, refl, ap, ◌∙◌, subst, arith}
-use Rattle.std.specs.List.{AllByRecursion as All}
+use Rattle.std.specs.List.{AllByRecursion}
 use Rattle.std.proofs.lemmas.List.{take_at}
 use Rattle.std.proofs.lemmas.List.Sums.{sum_by-cons, sum_by-append}
 use Rattle.std.proofs.lemmas.Bool.{leb-true, cond-true, cond-false}
@@ -52,12 +52,12 @@ succeeds old new up up' =
     }
 
 -- from any map on
-pub runs_from : (old : List Range) (maps : List (List Range)) → rising 0 old ≡ true → All (λ m. rising 0 m ≡ true) maps → carry_out (all_changes old maps) old ≡ Some (last_map old maps)
+pub runs_from : (old : List Range) (maps : List (List Range)) → rising 0 old ≡ true → AllByRecursion (λ m. rising 0 m ≡ true) maps → carry_out (all_changes old maps) old ≡ Some (last_map old maps)
 runs_from old [] up ups = refl
 runs_from old (new ∷ maps) up ups =
     carry_append (changes old new) (all_changes new maps) old ∙ ap (λ o. and_then o (carry_out (all_changes new maps))) (replays 0 0 old new up ups.0).gives ∙ runs_from new maps ups.0 ups.1
 
-pub runs_in_table : (room i : ℕ) (old : List Range) (maps : List (List Range)) → rising 0 old ≡ true → length old ≤ room → All (λ m. rising 0 m ≡ true) maps → All (λ m. length m ≤ room) maps → carry_from room i (all_changes old maps) old ≡ Ok (last_map old maps)
+pub runs_in_table : (room i : ℕ) (old : List Range) (maps : List (List Range)) → rising 0 old ≡ true → length old ≤ room → AllByRecursion (λ m. rising 0 m ≡ true) maps → AllByRecursion (λ m. length m ≤ room) maps → carry_from room i (all_changes old maps) old ≡ Ok (last_map old maps)
 runs_in_table room i old [] up fit ups fits = refl
 runs_in_table room i old (new ∷ maps) up fit ups fits =
     from_append room i (changes old new) (all_changes new maps) old

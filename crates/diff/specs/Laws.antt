@@ -1,6 +1,6 @@
 -- What a change list is good for.
 use Rattle.std.specs.Prelude.{◌≡◌, ℕ, ◌+◌, ◌≤◌, Bool, true, false, List, [], ◌∷◌, ◌++◌, length, take, Some, None, Ok, count_by, filter, Option}
-use Rattle.std.specs.List.{AllByRecursion as All}
+use Rattle.std.specs.List.{AllByRecursion}
 use Rattle.interval.specs.Stretches.{rising}
 use Rattle.model.specs.declared.changes.Change.{Change}
 use Rattle.model.specs.declared.changes.Change.TheVariants.{Removal, Addition}
@@ -50,8 +50,8 @@ last_map old (new ∷ maps) = last_map new maps
 -- carried out in turn from the empty map, the change lists of any successive maps give the last; so
 -- too in a table that has room for each map
 pub record RunsReplay : Type 0 where
-  pub gives : (maps : List (List Range)) → All (λ m. rising 0 m ≡ true) maps → carry_out (all_changes [] maps) [] ≡ Some (last_map [] maps)
-  pub in_table : (room : ℕ) (maps : List (List Range)) → All (λ m. rising 0 m ≡ true) maps → All (λ m. length m ≤ room) maps → carry_from room 0 (all_changes [] maps) [] ≡ Ok (last_map [] maps)
+  pub gives : (maps : List (List Range)) → AllByRecursion (λ m. rising 0 m ≡ true) maps → carry_out (all_changes [] maps) [] ≡ Some (last_map [] maps)
+  pub in_table : (room : ℕ) (maps : List (List Range)) → AllByRecursion (λ m. rising 0 m ≡ true) maps → AllByRecursion (λ m. length m ≤ room) maps → carry_from room 0 (all_changes [] maps) [] ≡ Ok (last_map [] maps)
 
 -- what a table of any size carries out, the rule without a bound does; and what that rule carries
 -- out, a table does that has a record for each held range and each entry

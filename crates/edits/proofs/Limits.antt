@@ -1,6 +1,6 @@
 -- The bounds of the numbers in a tree, entry by entry.
 use Rattle.std.proofs.Common.{◌≡◌, ℕ, ◌^◌, ◌<◌, true, ltb, leb, List, [], ◌∷◌, length, get_or, None, Option, refl, ap, ⊎_elim, arith}
-use Rattle.std.specs.List.{AllByRecursion as All}
+use Rattle.std.specs.List.{AllByRecursion}
 use Rattle.std.proofs.ByRecursion.{All-get_or}
 use Rattle.std.proofs.lemmas.List.{get_or_past}
 use Rattle.std.proofs.lemmas.Bool.{and_parts, and_from, cases_lt, leb-true, ltb-true, le-leb, lt-ltb}
@@ -9,7 +9,7 @@ use Rattle.tree.specs.declared.regions.Attachment.{Attachment}
 use Rattle.edits.specs.Limits.{Low}
 use Rattle.tree.specs.Bounds.{bounded_region, bounded_regions, bounded_attachments}
 
-pub low_from : (cs : List Attachment) → bounded_attachments cs ≡ true → All Low cs
+pub low_from : (cs : List Attachment) → bounded_attachments cs ≡ true → AllByRecursion Low cs
 low_from [] e = tt
 low_from (c ∷ cs) e =
     let some = and_parts (leb 1 c.child) _ e in
@@ -18,7 +18,7 @@ low_from (c ∷ cs) e =
     let offset = and_parts (leb c.offset (2 ^ 40)) (bounded_attachments cs) parent.1 in
     (record { some = leb-true _ _ some.0; child = ltb-true _ _ child.0; parent = ltb-true _ _ parent.0; offset = leb-true _ _ offset.0 }, low_from cs offset.1)
 
-pub from_low : (cs : List Attachment) → All Low cs → bounded_attachments cs ≡ true
+pub from_low : (cs : List Attachment) → AllByRecursion Low cs → bounded_attachments cs ≡ true
 from_low [] h = refl
 from_low (c ∷ cs) h =
     and_from _ _ (le-leb _ _ h.0.some) (and_from _ _ (lt-ltb _ _ h.0.child) (and_from _ _ (lt-ltb _ _ h.0.parent) (and_from _ _ (le-leb _ _ h.0.offset) (from_low cs h.1))))
@@ -36,11 +36,11 @@ parent_in cs i n d e lt is = let low = (low_at cs i d e lt).parent in omega arit
 abbrev pub Fine : Option Region → Type 0
 Fine g = bounded_region g ≡ true
 
-pub fine_from : (gs : List (Option Region)) → bounded_regions gs ≡ true → All Fine gs
+pub fine_from : (gs : List (Option Region)) → bounded_regions gs ≡ true → AllByRecursion Fine gs
 fine_from [] e = tt
 fine_from (g ∷ gs) e = let h = and_parts (bounded_region g) (bounded_regions gs) e in (h.0, fine_from gs h.1)
 
-pub from_fine : (gs : List (Option Region)) → All Fine gs → bounded_regions gs ≡ true
+pub from_fine : (gs : List (Option Region)) → AllByRecursion Fine gs → bounded_regions gs ≡ true
 from_fine [] h = refl
 from_fine (g ∷ gs) h = and_from _ _ h.0 (from_fine gs h.1)
 
@@ -48,5 +48,5 @@ pub fine_at : (gs : List (Option Region)) (i : ℕ) (d : Option Region) → boun
 fine_at gs i d e lt = All-get_or Fine gs i d lt (fine_from gs e)
 
 -- and where there is no region too
-pub fine_anywhere : (gs : List (Option Region)) (n : ℕ) → All Fine gs → Fine (get_or gs n None)
+pub fine_anywhere : (gs : List (Option Region)) (n : ℕ) → AllByRecursion Fine gs → Fine (get_or gs n None)
 fine_anywhere gs n h = ⊎_elim (λ lt. All-get_or Fine gs n None lt h) (λ le. ap bounded_region (get_or_past gs n None le)) (cases_lt n (length gs))

@@ -1,7 +1,7 @@
 -- Attachments put into the search order and taken out of it.
 use Rattle.std.proofs.Common.{◌≡◌, ℕ, zero, suc, ◌+◌, ◌^◌, ◌<◌, ◌≤◌, Bool, true, false, cond, not, ◌||◌, eqb, List, [], ◌∷◌, length, ℤ, pos, is_some, Some, None, filter, Option, sym, refl, ap, ◌∙◌, ⊎_elim, arith}
 use lib.Signed.{lt_z}
-use Rattle.std.specs.List.{AllByRecursion as All}
+use Rattle.std.specs.List.{AllByRecursion}
 use Rattle.std.proofs.ByRecursion.{all_kept_by, All-weaker}
 use Rattle.std.proofs.lemmas.Int.{ints}
 use Rattle.std.proofs.lemmas.Bool.{and_from, and_parts, both_ways, cases_lt, cond_both, eqb-false, eqb-true, ne_eqb, not-true, or_from, or_parts}
@@ -116,16 +116,16 @@ once_inserted a (c ∷ cs) none e =
 abbrev Upto : ℕ → Attachment → Type 0
 Upto m c = (1 ≤ c.child) × (c.child ≤ m)
 
-upto_without : (m : ℕ) (cs : List Attachment) → All (Upto (suc m)) cs → All (Upto m) (without_child (suc m) cs)
+upto_without : (m : ℕ) (cs : List Attachment) → AllByRecursion (Upto (suc m)) cs → AllByRecursion (Upto m) (without_child (suc m) cs)
 upto_without m [] h = tt
 upto_without m (c ∷ cs) h =
     let rest = upto_without m cs h.1 in
     let le = h.0.1 in
-    cond_both (not (eqb c.child (suc m))) (c ∷ without_child (suc m) cs) (without_child (suc m) cs) (All (Upto m))
+    cond_both (not (eqb c.child (suc m))) (c ∷ without_child (suc m) cs) (without_child (suc m) cs) (AllByRecursion (Upto m))
     (λ other. let ne = eqb-false _ _ (not-true (eqb c.child (suc m)) other) in ((h.0.0, ⊎_elim (λ lt. omega arith) (λ ge. absurd (ne (omega arith))) (cases_lt c.child (suc m))), rest))
     (λ _. rest)
 
-few : (m : ℕ) (cs : List Attachment) → once cs ≡ true → All (Upto m) cs → length cs ≤ m
+few : (m : ℕ) (cs : List Attachment) → once cs ≡ true → AllByRecursion (Upto m) cs → length cs ≤ m
 few zero [] e h = omega arith
 few zero (c ∷ cs) e h = let low = h.0.0 in let high = h.0.1 in absurd (omega arith)
 few (suc m) cs e h =
@@ -133,7 +133,7 @@ few (suc m) cs e h =
     let most = one_less (suc m) cs e in
     omega arith
 
-pub room : (n : ℕ) (cs : List Attachment) → All Low cs → once cs ≡ true → has_child n cs ≡ false → 1 ≤ n → n < 64 → length cs < 63
+pub room : (n : ℕ) (cs : List Attachment) → AllByRecursion Low cs → once cs ≡ true → has_child n cs ≡ false → 1 ≤ n → n < 64 → length cs < 63
 room n cs low e none some high =
     let upto = All-weaker Low (Upto 63) (λ c l. let lt = l.child in (l.some, omega arith)) cs low in
     let a : Attachment = record { child = n; parent = 0; offset = 0; priority = pos 0 } in
@@ -143,7 +143,7 @@ room n cs low e none some high =
 -- Higher priority first.
 
 abbrev pub Behind : Attachment → List Attachment → Type 0
-Behind c cs = All (λ d. lt_z c.priority d.priority ≡ false) cs
+Behind c cs = AllByRecursion (λ d. lt_z c.priority d.priority ≡ false) cs
 
 not_less : (x y z : ℤ) → lt_z x y ≡ false → lt_z y z ≡ false → lt_z x z ≡ false
 not_less x y z p q = grind (arith, ints)
@@ -177,10 +177,10 @@ sorted_kept p (c ∷ cs) e =
     (λ _. sorted_more c (filter p cs) (all_kept_by p (λ d. lt_z c.priority d.priority ≡ false) cs (sorted_behind c cs e)) rest)
     (λ _. rest)
 
-all_inserted : (P : Attachment → Type 0) (a : Attachment) (cs : List Attachment) → P a → All P cs → All P (inserted a cs)
+all_inserted : (P : Attachment → Type 0) (a : Attachment) (cs : List Attachment) → P a → AllByRecursion P cs → AllByRecursion P (inserted a cs)
 all_inserted P a [] p h = (p, tt)
 all_inserted P a (c ∷ cs) p h =
-    cond_both (lt_z a.priority c.priority) (c ∷ inserted a cs) (a ∷ c ∷ cs) (All P) (λ _. (h.0, all_inserted P a cs p h.1)) (λ _. (p, h))
+    cond_both (lt_z a.priority c.priority) (c ∷ inserted a cs) (a ∷ c ∷ cs) (AllByRecursion P) (λ _. (h.0, all_inserted P a cs p h.1)) (λ _. (p, h))
 
 sorted_inserted : (a : Attachment) (cs : List Attachment) → sorted cs ≡ true → sorted (inserted a cs) ≡ true
 sorted_inserted a [] e = refl
@@ -193,7 +193,7 @@ sorted_inserted a (c ∷ cs) e =
 -- Orders that a tree may have.
 
 pub record Well (cs : List Attachment) : Type 0 where
-  pub low : All Low cs
+  pub low : AllByRecursion Low cs
   pub single : once cs ≡ true
   pub ranked : sorted cs ≡ true
 
@@ -208,7 +208,7 @@ abbrev pub Its : (Attachment → Type 0) → ℕ → Option Attachment → Type 
 Its P n None = Unit {0}
 Its P n (Some c) = (c.child ≡ n) × P c
 
-pub its : (P : Attachment → Type 0) (n : ℕ) (cs : List Attachment) → All P cs → Its P n (attachment_of n cs)
+pub its : (P : Attachment → Type 0) (n : ℕ) (cs : List Attachment) → AllByRecursion P cs → Its P n (attachment_of n cs)
 its P n [] h = tt
 its P n (c ∷ cs) h = cond_both (eqb c.child n) (Some c) (attachment_of n cs) (Its P n) (λ e. (eqb-true _ _ e, h.0)) (λ _. its P n cs h.1)
 

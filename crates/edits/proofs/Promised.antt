@@ -1,7 +1,7 @@
 -- The promises of an edit, from its rows.
 use Rattle.std.proofs.Common.{◌≡◌, ℕ, ◌<◌, Bool, true, false, cond, not, eqb, List, [], ◌∷◌, ◌++◌, take, ℤ, ◌≤ℤ◌, ◌<ℤ◌, is_some, Some, None, Ok, Err, Option, Result, sym, refl, ap, ◌∙◌, subst, arith, lit<}
 use lib.Signed.{lt_z}
-use Rattle.std.specs.List.{AllByRecursion as All}
+use Rattle.std.specs.List.{AllByRecursion}
 use Rattle.std.proofs.ByRecursion.{All-weaker}
 use Rattle.std.proofs.lemmas.Int.{ints}
 use Rattle.std.proofs.lemmas.Bool.{both_ways, cond_both, not-false}
@@ -66,7 +66,7 @@ late m d = by_tests (comes_back m) (too_long m) refl refl
 abbrev Early : Row → Type 0
 Early r = (row r.1).number < 12
 
-early_fault : (rs : List Row) (f : Fault) → All Early rs → first_applying rs ≡ Some f → (row f).number < 12
+early_fault : (rs : List Row) (f : Fault) → AllByRecursion Early rs → first_applying rs ≡ Some f → (row f).number < 12
 early_fault [] f h e = absurd (never f (sym e))
 early_fault (r ∷ rs) f h e = at r.0 e (early_fault rs f h.1)
   where
@@ -74,14 +74,14 @@ early_fault (r ∷ rs) f h e = at r.0 e (early_fault rs f h.1)
     at true e ih = subst (λ x. (row x).number < 12) (some_same _ _ e) h.0
     at false e ih = ih e
 
-early_says : (m : Model) (rs : List Row) → All Early rs → (Passed rs → Lawful m) → Says m (first_applying rs)
+early_says : (m : Model) (rs : List Row) → AllByRecursion Early rs → (Passed rs → Lawful m) → Says m (first_applying rs)
 early_says m rs h law = record {
   cycle = λ is. let lt = early_fault rs Cycle h is in absurd (omega arith);
   deep = λ is. let lt = early_fault rs TooDeep h is in absurd (omega arith);
   lawful = λ is. law (passes rs is);
 }
 
-then_says : (m : Model) (rs : List Row) → All Early rs → (Passed rs → Decided m) → Says m (first_applying (rs ++ path_rows m))
+then_says : (m : Model) (rs : List Row) → AllByRecursion Early rs → (Passed rs → Decided m) → Says m (first_applying (rs ++ path_rows m))
 then_says m rs h dec = by_first (first_applying rs) refl
   where
     by_first : (q : Option Fault) → first_applying rs ≡ q → Says m (first_applying (rs ++ path_rows m))

@@ -1,6 +1,6 @@
 -- Rounds over the edges of a tree, which mark regions.
 use Rattle.std.proofs.Common.{◌≡◌, ℕ, ◌+◌, ◌^◌, ◌<◌, ◌≤◌, Bool, true, false, cond, ◌&&◌, ◌||◌, eqb, ltb, leb, List, [], ◌∷◌, ◌++◌, map, length, get_or, take, set, replicate, Some, None, Decides, Option, sym, refl, ap, ◌∙◌, subst, ⊎_elim, add-one, arith}
-use Rattle.std.specs.List.{ContainsAt as Has, AllByRecursion as All}
+use Rattle.std.specs.List.{ContainsAt as Has, AllByRecursion}
 use Rattle.std.proofs.ByRecursion.{All-append}
 use Rattle.std.proofs.lemmas.List.{take_more, get_or-set_same, get_or-set_other, get_or_past, get_or-replicate, get_or_default, length-set}
 use Rattle.std.proofs.lemmas.Bool.{and_parts, and_right, cases_eq, cases_lt, cond_both, eq-eqb, ne_eqb, lt-ltb, ltb-true}
@@ -83,25 +83,25 @@ stepped p t mid last long children' aliases = record {
       ∙ sym (any_append p (children k t.attachments) (targets_of (region_at t k)));
 }
 
-any_same : (p q : ℕ → Bool) (xs : List ℕ) → All (λ x. x < 64) xs → ((x : ℕ) → x < 64 → p x ≡ q x) → any p xs ≡ any q xs
+any_same : (p q : ℕ → Bool) (xs : List ℕ) → AllByRecursion (λ x. x < 64) xs → ((x : ℕ) → x < 64 → p x ≡ q x) → any p xs ≡ any q xs
 any_same p q [] low same = refl
 any_same p q (x ∷ xs) low same = λ i. same x low.0 i || any_same p q xs low.1 same i
 
 -- where edges lead
-children_low : (k : ℕ) (cs : List Attachment) → All Low cs → All (λ x. x < 64) (children k cs)
+children_low : (k : ℕ) (cs : List Attachment) → AllByRecursion Low cs → AllByRecursion (λ x. x < 64) (children k cs)
 children_low k [] h = tt
-children_low k (c ∷ cs) h = cond_both (eqb c.parent k) (c ∷ under k cs) (under k cs) (λ l. All (λ x. x < 64) (map (λ c. c.child) l)) (λ _. (h.0.child, children_low k cs h.1)) (λ _. children_low k cs h.1)
+children_low k (c ∷ cs) h = cond_both (eqb c.parent k) (c ∷ under k cs) (under k cs) (λ l. AllByRecursion (λ x. x < 64) (map (λ c. c.child) l)) (λ _. (h.0.child, children_low k cs h.1)) (λ _. children_low k cs h.1)
 
-target_low : (g : Option Region) → Fine g → All (λ x. x < 64) (targets_of g)
+target_low : (g : Option Region) → Fine g → AllByRecursion (λ x. x < 64) (targets_of g)
 target_low None e = tt
 target_low (Some g) e = in_body g.body (and_parts (leb g.size (2 ^ 40)) _ (and_parts (leb 1 g.size) _ e).1).1
   where
-    in_body : (b : Body) → bounded_body b ≡ true → All (λ x. x < 64) (targets b)
+    in_body : (b : Body) → bounded_body b ≡ true → AllByRecursion (λ x. x < 64) (targets b)
     in_body Container e = tt
     in_body (Leaf d k) e = tt
     in_body (Alias s f) e = (ltb-true s 64 (and_parts (ltb s 64) _ e).0, tt)
 
-onward_low : (t : Model) (k : ℕ) → Bounded t → All (λ x. x < 64) (onward t k)
+onward_low : (t : Model) (k : ℕ) → Bounded t → AllByRecursion (λ x. x < 64) (onward t k)
 onward_low t k h =
     All-append (λ x. x < 64) (children k t.attachments) (targets_of (region_at t k)) (children_low k t.attachments (low_from t.attachments h.offsets)) (target_low (region_at t k) (fine_anywhere t.regions k (fine_from t.regions h.sizes)))
 

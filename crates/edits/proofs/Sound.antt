@@ -1,7 +1,7 @@
 -- An accepted edit keeps what is true of every tree.
 use Rattle.std.proofs.Common.{◌≡◌, ℕ, ◌^◌, ◌<◌, ◌≤◌, Bool, true, false, cond, not, eqb, ltb, ◌⊎◌, List, [], ◌∷◌, ◌++◌, length, get_or, take, ℤ, is_some, Some, None, Ok, Err, filter, Option, Result, sym, refl, ap, ◌∙◌, subst, inl, inr, ⊎_elim, arith}
 use lib.Signed.{lt_z}
-use Rattle.std.specs.List.{AllByRecursion as All}
+use Rattle.std.specs.List.{AllByRecursion}
 use Rattle.std.proofs.ByRecursion.{All-set}
 use Rattle.std.proofs.lemmas.List.{get_or-set_same, get_or-set_other, set_past, length-set}
 use Rattle.std.proofs.lemmas.Bool.{and_from, both_ways, or_from, or_parts, cond-true, cond-false, cond_both, cases_Bool, cases_lt, cases_eq, le-leb, le-ltb, lt-ltb, ltb-false, eqb-false}
@@ -108,17 +108,17 @@ targets_marked b (Some g) = refl
 
 pub record Sound (t : Model) : Type 0 where
   pub numbered : length t.regions ≡ 64
-  pub fine : All Fine t.regions
+  pub fine : AllByRecursion Fine t.regions
   pub well : Well t.attachments
   pub short : Short t
 
-pub bounded : (t : Model) → length t.regions ≡ 64 → All Fine t.regions → Well t.attachments → Bounded t
+pub bounded : (t : Model) → length t.regions ≡ 64 → AllByRecursion Fine t.regions → Well t.attachments → Bounded t
 bounded t n f w = record { numbered = n; sizes = from_fine t.regions f; offsets = from_low t.attachments w.low }
 
 -- Rows that do not apply.
 
 abbrev pub Passed : List Row → Type 0
-Passed rs = All (λ (r : Row). r.0 ≡ false) rs
+Passed rs = AllByRecursion (λ (r : Row). r.0 ≡ false) rs
 
 pub passes : (rs : List Row) → first_applying rs ≡ None → Passed rs
 passes [] e = tt
@@ -196,7 +196,7 @@ fine_marked v (Some g) e = e
 
 pub record Grown (later : Model) (p q : ℕ) (t : Model) : Type 0 where
   pub numbered : length later.regions ≡ 64
-  pub fine : All Fine later.regions
+  pub fine : AllByRecursion Fine later.regions
   pub well : Well later.attachments
   pub one : OneMore t later p q
 

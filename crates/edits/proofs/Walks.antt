@@ -1,6 +1,6 @@
 -- What the tests of paths find.
 use Rattle.std.proofs.Common.{◌≡◌, ℕ, zero, suc, ◌+◌, ◌<◌, ◌≤◌, Bool, true, false, ◌||◌, eqb, ◌⊎◌, List, [], ◌∷◌, ◌++◌, map, length, Some, None, Decides, Option, sym, refl, ap, ◌∙◌, subst, inl, inr, ⊎_elim, arith}
-use Rattle.std.specs.List.{AllByRecursion as All}
+use Rattle.std.specs.List.{AllByRecursion}
 use Rattle.std.proofs.ByRecursion.{All-weaker}
 use Rattle.std.proofs.lemmas.List.{get_or_past}
 use Rattle.std.proofs.lemmas.Bool.{both_ways, or_left, or_right, or_cases, cond-true, cond-false, cond_both, cases_Bool, cases_lt, cases_eq, eqb-true, eq-eqb}
@@ -126,7 +126,7 @@ path_leads t (suc n) k r s lt (go {q = q} e w) = any_true (λ q. eqb q s || lead
 
 pub record Numbered (t : Model) : Type 0 where
   pub long : length t.regions ≡ 64
-  pub parents : All (λ (c : Attachment). c.parent < 64) t.attachments
+  pub parents : AllByRecursion (λ (c : Attachment). c.parent < 64) t.attachments
 
 pub numbered : (t : Model) → Bounded t → Numbered t
 numbered t h = record { long = h.numbered; parents = All-weaker Low (λ (c : Attachment). c.parent < 64) (λ c low. low.parent) t.attachments (low_from t.attachments h.offsets) }
@@ -137,7 +137,7 @@ never g o e d = let z : ◌≡◌ {A = ℕ} 0 1 = cc in omega arith
 region_low : (t : Model) (r : ℕ) (g : Region) → length t.regions ≡ 64 → region_at t r ≡ Some g → r < 64
 region_low t r g long e = ⊎_elim (λ lt. lt) (λ le. absurd (never g (region_at t r) e (get_or_past t.regions r None (omega arith)))) (cases_lt r 64)
 
-held_low : (r s : ℕ) (cs : List Attachment) → All (λ (c : Attachment). c.parent < 64) cs → Holds r s cs → r < 64
+held_low : (r s : ℕ) (cs : List Attachment) → AllByRecursion (λ (c : Attachment). c.parent < 64) cs → Holds r s cs → r < 64
 held_low r s [] a h = absurd h
 held_low r s (c ∷ cs) a (inl h) = let e = h.0 in let lt = a.0 in omega arith
 held_low r s (c ∷ cs) a (inr h) = held_low r s cs a.1 h

@@ -1,6 +1,6 @@
 -- What an edit promises of paths and of the search order, in the words of the rules.
 use Rattle.std.specs.Prelude.{◌≡◌, ℕ, List, ◌∷◌, ◌++◌, ◌≤ℤ◌, ◌<ℤ◌, Some, Ok, Err, Result}
-use Rattle.std.specs.List.{AllByRecursion as All}
+use Rattle.std.specs.List.{AllByRecursion}
 use Rattle.model.specs.declared.faults.Fault.{Fault}
 use Rattle.model.specs.declared.faults.Fault.TheVariants.{Cycle, TooDeep}
 use Rattle.tree.specs.declared.regions.Attachment.{Attachment}
@@ -24,8 +24,8 @@ pub record LeadsEquals (a : Attachment) (others now : List Attachment) : Type 0 
   pub rest : List Attachment
   pub were : others ≡ higher ++ rest
   pub are : now ≡ higher ++ a ∷ rest
-  pub behind : All (λ (c : Attachment). a.priority <ℤ c.priority) higher
-  pub before : All (λ (c : Attachment). c.priority ≤ℤ a.priority) rest
+  pub behind : AllByRecursion (λ (c : Attachment). a.priority <ℤ c.priority) higher
+  pub before : AllByRecursion (λ (c : Attachment). c.priority ≤ℤ a.priority) rest
 
 -- the region n lies at another offset, with its parent and its priority as they were
 pub record Moved (n o : ℕ) (was now : List Attachment) : Type 0 where

@@ -1,7 +1,7 @@
 -- The laws of numerals.
 use Rattle.std.proofs.Common.{◌≡◌, ℕ, ◌+◌, ◌*◌, ◌/◌, ◌%◌, ◌^◌, ◌<◌, ◌≤◌, eqb, List, [], ◌∷◌, ◌++◌, map, length, get_or, take, sym, refl, ap, ◌∙◌, subst, ⊎_elim, mul-le-mul_right, arith}
 use lib.Arith.{digits_div, digits_mod}
-use Rattle.std.specs.List.{AllByRecursion as All}
+use Rattle.std.specs.List.{AllByRecursion}
 use Rattle.std.specs.Int.Digits.{digits_of, number_from_digits, number_from_digits_after}
 use Rattle.std.proofs.lemmas.Int.Digits.{length-digits_of-le, digits_of_step, first_digits_of, number_digits_of, same_from_digits_of, number_after_append, number_after_ge, all_below_base_digits_of}
 use Rattle.std.proofs.lemmas.List.{length-map, map_push, take_more}
@@ -56,15 +56,15 @@ lead (d ∷ ds) z h e =
 pub no_lead : (b n : ℕ) (z : List ℕ) → 2 ≤ b → 0 < n → 48 ∷ z ≡ numeral b n → ⊥
 no_lead b n z two h e = lead (digits_of b n) z (first_digits_of b n two h) (e ∙ numeral_pos b n h)
 
-all_ge : (ds : List ℕ) → All (λ c. 48 ≤ c) (map glyph ds)
+all_ge : (ds : List ℕ) → AllByRecursion (λ c. 48 ≤ c) (map glyph ds)
 all_ge [] = tt
 all_ge (d ∷ ds) = (glyph_ge d, all_ge ds)
 
-pub numeral_ge : (b n : ℕ) → All (λ c. 48 ≤ c) (numeral b n)
+pub numeral_ge : (b n : ℕ) → AllByRecursion (λ c. 48 ≤ c) (numeral b n)
 numeral_ge b n =
     ⊎_elim
-    (λ none. subst (All (λ c. 48 ≤ c)) (sym (ap (numeral b) none ∙ numeral_zero b)) (omega arith, tt))
-    (λ some. subst (All (λ c. 48 ≤ c)) (sym (numeral_pos b n (grind arith))) (all_ge (digits_of b n)))
+    (λ none. subst (AllByRecursion (λ c. 48 ≤ c)) (sym (ap (numeral b) none ∙ numeral_zero b)) (omega arith, tt))
+    (λ some. subst (AllByRecursion (λ c. 48 ≤ c)) (sym (numeral_pos b n (grind arith))) (all_ge (digits_of b n)))
     (cases_eq n 0)
 
 map_same : (ds es : List ℕ) → map glyph ds ≡ map glyph es → ds ≡ es
@@ -99,7 +99,7 @@ map_split (d ∷ ds) (x ∷ w) z c e =
     let r = map_split ds w z c t in
     (d ∷ r.0, r.1, r.2, (λ i. d ∷ r.3 i), (λ i. g i ∷ r.4 i), r.5)
 
-pub all_at : (P : ℕ → Type 0) (ws : List ℕ) (d : ℕ) (zs : List ℕ) → All P (ws ++ d ∷ zs) → P d
+pub all_at : (P : ℕ → Type 0) (ws : List ℕ) (d : ℕ) (zs : List ℕ) → AllByRecursion P (ws ++ d ∷ zs) → P d
 all_at P [] d zs a = a.0
 all_at P (w ∷ ws) d zs a = all_at P ws d zs a.1
 
@@ -135,7 +135,7 @@ inside b m w z c two e =
     let ws = r.0 in
     let d = r.1 in
     let zs = r.2 in
-    let under = subst (All (λ k. k < b)) r.3 (all_below_base_digits_of b m two) in
+    let under = subst (AllByRecursion (λ k. k < b)) r.3 (all_below_base_digits_of b m two) in
     let reached : (v : ℕ) → v ≡ number_from_digits b ws → v * b + d ≤ m = λ v h.
     let worth : number_from_digits_after b (v * b + d) zs ≡ m =
     ap (λ t. number_from_digits_after b (t * b + d) zs) h

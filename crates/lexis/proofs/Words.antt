@@ -1,6 +1,6 @@
 -- A number as a word of a line.
 use Rattle.std.proofs.Common.{◌≡◌, ℕ, ◌+◌, ◌-◌, ◌*◌, ◌<◌, ◌≤◌, true, ◌⊎◌, List, [], ◌∷◌, ◌++◌, length, get_or, take, drop, Err, sym, refl, ap, ◌∙◌, subst, inl, inr, ⊎_elim, append_assoc, arith, Bor}
-use Rattle.std.specs.List.{AllByRecursion as All}
+use Rattle.std.specs.List.{AllByRecursion}
 use Rattle.std.proofs.lemmas.List.{length-append, take-append-drop, drop-append-le, drop_more, drop_at, take_all}
 use Rattle.std.proofs.ByRecursion.{All-get_or}
 use Rattle.std.proofs.lemmas.Bool.{cases_eq, both_ways}
@@ -28,7 +28,7 @@ low_mark : (d : Divider) → mark d < 48
 low_mark d = low_divider (mark d) (mark_divides d)
 
 -- the first byte below 48 ends both
-span : (p q : List ℕ) (e : ℕ) (z y : List ℕ) → All (λ c. 48 ≤ c) p → All (λ c. 48 ≤ c) q → e < 48 → p ++ e ∷ z ≡ q ++ e ∷ y → p ≡ q
+span : (p q : List ℕ) (e : ℕ) (z y : List ℕ) → AllByRecursion (λ c. 48 ≤ c) p → AllByRecursion (λ c. 48 ≤ c) q → e < 48 → p ++ e ∷ z ≡ q ++ e ∷ y → p ≡ q
 span [] [] e z y a b l h = refl
 span [] (d ∷ q) e z y a b l h = let g : e ≡ d = cc in absurd (omega (arith, b.0))
 span (c ∷ p) [] e z y a b l h = let g : c ≡ e = cc in absurd (omega (arith, a.0))
@@ -115,15 +115,15 @@ module _ (b most : ℕ) (end : Divider) where
         (cases_eq k 0))
         (ended_byte (numeral b g.value) (mark end) front g.more c (sym (append_assoc front (c ∷ []) g.more) ∙ g.word.text))
 
-    high : All (λ c. 48 ≤ c) front
+    high : AllByRecursion (λ c. 48 ≤ c) front
     high =
         ⊎_elim
-        (λ (q : k ≡ 0). subst (All (λ c. 48 ≤ c)) (sym (h.none q).1) tt)
-        (λ (q : k ≡ 0 → ⊥). subst (All (λ c. 48 ≤ c)) (sym (h.some (grind arith))) (numeral_ge b v))
+        (λ (q : k ≡ 0). subst (AllByRecursion (λ c. 48 ≤ c)) (sym (h.none q).1) tt)
+        (λ (q : k ≡ 0 → ⊥). subst (AllByRecursion (λ c. 48 ≤ c)) (sym (h.some (grind arith))) (numeral_ge b v))
         (cases_eq k 0)
 
     unended : (a : ℕ) → Number b most end front a → ⊥
-    unended a w = let m = all_at (λ c. 48 ≤ c) (numeral b a) (mark end) [] (subst (All (λ c. 48 ≤ c)) w.text high) in omega (arith, low_mark end)
+    unended a w = let m = all_at (λ c. 48 ≤ c) (numeral b a) (mark end) [] (subst (AllByRecursion (λ c. 48 ≤ c)) w.text high) in omega (arith, low_mark end)
 
     pub number_lost : Lost (Number b most end) x rest
     number_lost = lost_by (Number b most end) (number_free two) x front rest h.split viable halts unended
@@ -146,7 +146,7 @@ module _ (b most : ℕ) (end : Divider) where
 
   -- a line x that begins with the word t, of which k bytes begin a number
   module _ (two : 2 ≤ b) (x t y : List ℕ) (v k : ℕ) (cut : x ≡ t ++ y) (leads : Leads b most t v k) where
-    pub number_short : k < length t → All Plain t → Lost (Number b most end) x (drop k x)
+    pub number_short : k < length t → AllByRecursion Plain t → Lost (Number b most end) x (drop k x)
     number_short h plain =
         let rest : drop k x ≡ drop k t ++ y = ap (drop k) cut ∙ drop-append-le k t y leads.within in
         let here : (c : ℕ) (z : List ℕ) → drop k x ≡ c ∷ z → get_or t k 0 ≡ c = λ c z e.

@@ -1,6 +1,6 @@
 -- The pieces of a line.
 use Rattle.std.specs.Prelude.{◌≡◌, ℕ, ◌<◌, Bool, true, false, ◌||◌, List, [], ◌∷◌, ◌++◌, length, ◌==◌}
-use Rattle.std.specs.List.{AllByRecursion as All}
+use Rattle.std.specs.List.{AllByRecursion}
 use Rattle.lexis.specs.declared.tokens.Divider.{Divider}
 use Rattle.lexis.specs.declared.tokens.Divider.TheVariants.{Open as Opening, Close as Closing, Space as Blank}
 use Rattle.lexis.specs.declared.tokens.Token.{Token}
@@ -30,7 +30,7 @@ abbrev pub Lexed : List ℕ → Token → List ℕ → Type 0
 Lexed x (Open c) y = x ≡ 40 ∷ y
 Lexed x (Close c) y = x ≡ 41 ∷ y
 Lexed x (Space c) y = x ≡ 32 ∷ y
-Lexed x (Word t c) y = (x ≡ t.now ++ y) × (0 < length t.now) × All Plain t.now × Parted y
+Lexed x (Word t c) y = (x ≡ t.now ++ y) × (0 < length t.now) × AllByRecursion Plain t.now × Parted y
 Lexed x (End c) y = (x ≡ []) × (y ≡ [])
 
 -- the column that a piece carries

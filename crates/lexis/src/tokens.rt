@@ -1,6 +1,6 @@
 // The pieces of a line.
 ghost use Rattle.std.specs.Prelude.{◌≡◌, ◌≤◌, length, take, drop};
-ghost use Rattle.std.specs.List.{AllByRecursion as All};
+ghost use Rattle.std.specs.List.{AllByRecursion};
 ghost use Rattle.lexis.specs.Tokens.{mark, divider, Plain, Parted, Lexed, start};
 
 // A byte that ends a word.
@@ -45,7 +45,7 @@ fn divides(b: u8) -> bool
 // How many bytes stand before the first divider.
 fn word_len(line: &[u8]) -> usize
     ensures within { result ≤ length line.now }
-    ensures plain { All Plain (take result line.now) }
+    ensures plain { AllByRecursion Plain (take result line.now) }
     ensures parted { Parted (drop result line.now) }
 {
     let mut n = 0;

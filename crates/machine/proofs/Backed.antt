@@ -1,6 +1,6 @@
 -- No leaf of a run is longer than its device, so that no place lies past its device's bytes.
 use Rattle.std.proofs.Common.{◌≡◌, ℕ, zero, suc, ◌+◌, ◌-◌, ◌<◌, ◌≤◌, Bool, false, ◌&&◌, ◌||◌, ltb, leb, List, [], ◌∷◌, length, get_or, replicate, Some, None, Option, refl, ap, ◌∙◌, arith}
-use Rattle.std.specs.List.{AllByRecursion as All}
+use Rattle.std.specs.List.{AllByRecursion}
 use Rattle.std.proofs.ByRecursion.{All-set}
 use Rattle.std.proofs.lemmas.Bool.{cond-true, cond_both, and_parts, or_parts, ltb-true, ltb-false, le-leb}
 use Rattle.model.specs.declared.faults.Fault.{Fault}
@@ -37,7 +37,7 @@ Fits len (Some g) = BodyFits len g.body g.size
 
 -- no leaf of the tree is longer than its device
 abbrev pub Backed : Lengths → Model → Type 0
-Backed len t = All (Fits len) t.regions
+Backed len t = AllByRecursion (Fits len) t.regions
 
 abbrev pub BackedDraft : Lengths → Option Model → Type 0
 BackedDraft len None = Unit {0}
@@ -48,7 +48,7 @@ abbrev pub Inside : Lengths → Option Place → Type 0
 Inside len None = Unit {0}
 Inside len (Some p) = p.offset < len p.device
 
-all_at : {X : Type 0} (P : X → Type 0) (d : X) → P d → (xs : List X) (n : ℕ) → All P xs → P (get_or xs n d)
+all_at : {X : Type 0} (P : X → Type 0) (d : X) → P d → (xs : List X) (n : ℕ) → AllByRecursion P xs → P (get_or xs n d)
 all_at P d h [] n a = h
 all_at P d h (x ∷ xs) zero a = a.0
 all_at P d h (x ∷ xs) (suc n) a = all_at P d h xs n a.1
@@ -158,7 +158,7 @@ stands_run : (len : Lengths) (o : Opening) (m : Machine) (cs : List Call) → St
 stands_run len o m [] s = s
 stands_run len o m (c ∷ cs) s = stands_run len o (next o m c) cs (stands_step len o m s c)
 
-none_fit : (len : Lengths) (n : ℕ) → All (Fits len) (replicate n None)
+none_fit : (len : Lengths) (n : ℕ) → AllByRecursion (Fits len) (replicate n None)
 none_fit len zero = tt
 none_fit len (suc n) = (tt, none_fit len n)
 

@@ -1,7 +1,7 @@
 -- The calls of a space, held against the machine: from what a call finds and leaves at the state to its promises.
 use Rattle.std.proofs.Common.{◌≡◌, ℕ, zero, suc, ◌<◌, ◌≤◌, Bool, true, false, cond, not, ltb, List, [], ◌∷◌, ◌++◌, length, is_some, Some, None, Option, Result, sym, refl, ap, ◌∙◌, subst, ⊎_elim, arith}
 use mathlib.Core.Path.{fun_ext}
-use Rattle.std.specs.List.{AllByRecursion as All}
+use Rattle.std.specs.List.{AllByRecursion}
 use Rattle.std.proofs.lemmas.Bool.{cond-true, cond-false, cases_Bool, lt-ltb, le-ltb}
 use Rattle.interval.specs.Stretches.{rising, at}
 use Rattle.model.specs.declared.faults.Fault.{Fault}
@@ -72,7 +72,7 @@ module _ (o : Opening) (cs : List Call) (s : State) (led : Leads o cs s) where
 -- Rows.
 
 -- what holds of the faults of all rows holds of the one that decides
-deciding : (P : Fault → Type 0) (rs : List Row) (f : Fault) → All (λ (r : Row). P r.1) rs → first_applying rs ≡ Some f → P f
+deciding : (P : Fault → Type 0) (rs : List Row) (f : Fault) → AllByRecursion (λ (r : Row). P r.1) rs → first_applying rs ≡ Some f → P f
 deciding P [] f a e = absurd (let z : ◌≡◌ {A = ℕ} 0 1 = cc in omega arith)
 deciding P (r ∷ rs) f a e = ⊎_elim
     (λ y. let is : r.1 ≡ f = inside (sym (cond-true r.0 (Some r.1) (first_applying rs) y) ∙ e) in subst P is a.0)
@@ -86,7 +86,7 @@ deciding P (r ∷ rs) f a e = ⊎_elim
 abbrev Spares : Row → Type 0
 Spares r = ends_draft r.1 ≡ false
 
-edits_spare : (b : Backing) (t : Model) (e : Edit) → All Spares (edit_rows b t e)
+edits_spare : (b : Backing) (t : Model) (e : Edit) → AllByRecursion Spares (edit_rows b t e)
 edits_spare b t (Container n s) = (refl, (refl, (refl, tt)))
 edits_spare b t (Leaf n s d) = (refl, (refl, (refl, (refl, tt))))
 edits_spare b t (Alias n s r f) = (refl, (refl, (refl, (refl, (refl, (refl, (refl, tt)))))))
@@ -101,7 +101,7 @@ edit_spares : (b : Backing) (t : Model) (e : Edit) (f : Fault) → edit_refusal 
 unfolding edit_refusal
 edit_spares b t e f is = deciding (λ x. ends_draft x ≡ false) (edit_rows b t e) f (edits_spare b t e) is
 
-addresses_spare : (w : Bool) (shows : ℕ → Option Place) (a n : ℕ) → All Spares (address_rows w shows a n)
+addresses_spare : (w : Bool) (shows : ℕ → Option Place) (a n : ℕ) → AllByRecursion Spares (address_rows w shows a n)
 unfolding address_rows
 addresses_spare w shows a zero = tt
 addresses_spare w shows a (suc n) = (refl, (refl, addresses_spare w shows (suc a) n))

@@ -1,6 +1,6 @@
 -- What holds of the trees of all runs.
 use Rattle.std.proofs.Common.{◌≡◌, ℕ, zero, suc, ◌^◌, ◌≤◌, Bool, true, false, cond, eqb, ltb, List, [], ◌∷◌, replicate, is_some, Some, None, Option, sym, refl, ap, ◌∙◌, subst}
-use Rattle.std.specs.List.{AllByRecursion as All}
+use Rattle.std.specs.List.{AllByRecursion}
 use Rattle.std.proofs.lemmas.List.{get_or-set_other}
 use Rattle.std.proofs.lemmas.Bool.{both_ways, or_parts, ltb-false, eqb-false}
 use Rattle.interval.specs.Stretches.{rising}
@@ -36,7 +36,7 @@ pub record Rooted (size : ℕ) (t : Model) : Type 0 where
 
 -- The root alone.
 
-fine_nones : (n : ℕ) → All Fine (replicate n None)
+fine_nones : (n : ℕ) → AllByRecursion Fine (replicate n None)
 fine_nones zero = tt
 fine_nones (suc n) = (refl, fine_nones n)
 
