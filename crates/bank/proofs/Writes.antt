@@ -20,7 +20,7 @@ wrote_past m n o b h = fun_ext (λ q. go q (eqb q n) refl)
     go q true e = put_past (m q) o b (rw (eqb-true q n e) h)
     go q false e = refl
 
--- what `nth` finds, `get_or` gives
+-- what `slice_get` finds, `get_or` gives
 pub nth_known : (xs : List ℕ) (i v : ℕ) → slice_get xs i ≡ Some v → (i < length xs) × (get_or xs i 0 ≡ v)
 nth_known [] i v e = let no : ◌≡◌ {A = ℕ} 0 1 = cc in absurd (omega arith)
 nth_known (x ∷ xs) zero v e = (omega arith, cc)

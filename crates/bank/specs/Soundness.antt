@@ -3,6 +3,7 @@ use Rattle.std.specs.Prelude.{◌≡◌, ℕ, zero, suc, ◌<◌, ◌≤◌, tru
 use Rattle.std.proofs.Common.{refl, sym, ◌∙◌, arith, lit<}
 use Rattle.std.proofs.lemmas.List.{length-take-le, length-replicate}
 use Rattle.model.specs.declared.kinds.Kind.{Kind}
+use Rattle.model.specs.declared.kinds.Kind.TheVariants.{Ram, Rom}
 use Rattle.bank.specs.Devices.{Device, Sound, absent, single}
 use Rattle.bank.specs.Banks.{front, ram_of, rom_of, registers_of}
 
@@ -46,11 +47,15 @@ front_sound kind mask xs n held narrow =
       narrow = replicate_small n mask narrow;
     }
 
+front_kept : (kind : Kind) (mask : ℕ) → mask < 256 → (bytes : List ℕ) (shown : ℕ) → length bytes ≡ 8192 → shown ≤ 8192 → Small bytes → (n : ℕ) → Sound (single (front kind mask bytes shown) n)
+front_kept kind mask narrow bytes shown whole within small =
+    single_sound _ (front_sound kind mask bytes shown (record { whole = whole; within = within; small = small }) narrow)
+
 pub ram_kept : (bytes : List ℕ) (shown : ℕ) → length bytes ≡ 8192 → shown ≤ 8192 → Small bytes → (n : ℕ) → Sound (single (ram_of bytes shown) n)
-ram_kept bytes shown whole within small = single_sound _ (front_sound _ _ _ _ (record { whole = whole; within = within; small = small }) (lit< tt))
+ram_kept = front_kept Ram 255 (lit< tt)
 
 pub rom_kept : (bytes : List ℕ) (shown : ℕ) → length bytes ≡ 8192 → shown ≤ 8192 → Small bytes → (n : ℕ) → Sound (single (rom_of bytes shown) n)
-rom_kept bytes shown whole within small = single_sound _ (front_sound _ _ _ _ (record { whole = whole; within = within; small = small }) (lit< tt))
+rom_kept = front_kept Rom 0 (lit< tt)
 
 pub arrays_sound : (bytes masks : List ℕ) → length bytes ≡ 256 → length masks ≡ 256 → Small bytes → Small masks → Sound (registers_of bytes masks)
 arrays_sound bytes masks whole level small narrow =
