@@ -1,13 +1,15 @@
 -- Two writes as one, and in the other order.
-use Rattle.std.proofs.Common.{◌≡◌, ℕ, ◌<◌, true, length, Result, sym, ap, ◌∙◌, arith}
+use Rattle.std.proofs.Common.{◌≡◌, ℕ, ◌<◌, true, length, Ok, Result, sym, ap, ◌∙◌, arith}
 use Rattle.std.proofs.lemmas.Bool.{and_from, cond-true, lt-ltb}
 use Rattle.bank.specs.Answers.{writing}
 use Rattle.bank.specs.Devices.{Device}
 use Rattle.bank.specs.JointWrites.{TwoBytes, both_there, joint_answer, wrote_byte, wrote_both}
 use Rattle.bank.specs.declared.bank.PastEnd.{PastEnd}
 use Rattle.bank.specs.declared.joint.ByteWrite.{ByteWrite}
-use Rattle.bank.proofs.Singles.{writing_within}
 use Rattle.bank.proofs.Writes.{length_wrote, wrote_comm}
+
+writing_within : (d : Device) (o : ℕ) → o < length d.bytes → Ok tt ≡ writing d o
+writing_within d o h = sym (cond-true _ _ _ (lt-ltb o (length d.bytes) h))
 
 both_in : (m : ℕ → Device) (v w : ByteWrite) → v.offset < length (m v.device).bytes → w.offset < length (m w.device).bytes → both_there m v w ≡ true
 both_in m v w h k = and_from _ _ (lt-ltb v.offset _ h) (lt-ltb w.offset _ k)

@@ -1,13 +1,13 @@
 -- The steps of loads and stores.
 use Rattle.std.proofs.Common.{◌≡◌, ℕ, zero, suc, ◌+◌, ◌<◌, ◌≤◌, ◌⊎◌, List, [], ◌∷◌, ◌++◌, length, get_or, take, drop, set, Some, sym, refl, ap, ◌∙◌, inl, inr, add-zero, add_assoc, zero-add, arith}
 use Rattle.std.specs.List.{slice_get}
-use Rattle.std.proofs.lemmas.List.{append_assoc, at_drop_more, drop_all, drop_more, get_or-drop, length-drop, length-take-le, set_at, take_more}
-use Rattle.std.proofs.lemmas.Option.{slice_get-get_or}
+use Rattle.std.proofs.lemmas.List.{append_assoc, append-nil, at_drop_more, drop_all, drop_more, get_or-drop, length-drop, length-take, length-take-le, set_at, take_more}
+use Rattle.std.proofs.lemmas.Option.{slice_get-get_or, slice_get_within}
 use Rattle.std.proofs.lemmas.Bool.{cases_lt}
 use Rattle.bank.specs.Alterations.{Alters, AltersRun}
 use Rattle.bank.specs.Devices.{Device, masked, wrote}
 use Rattle.bank.specs.Transfers.{reach, filled, loaded, Fills, stored}
-use Rattle.bank.proofs.Writes.{nth_known, wrote_past, wrote_alters, length_wrote}
+use Rattle.bank.proofs.Writes.{wrote_past, wrote_alters, length_wrote}
 
 -- a load moves one byte more
 pub fill_more : (d : Device) (o i y : ℕ) (out now : List ℕ) → o + i < length d.bytes → i < length out → Some y ≡ slice_get d.bytes (o + i) → now ≡ filled d o i out → set now i y ≡ filled d o (i + 1) out
@@ -18,8 +18,13 @@ fill_more d o i y out now h k e inv =
     let at : y ≡ get_or xs i 0 = grind (arith, slice_get-get_or d.bytes (o + i) 0 h, get_or-drop o d.bytes i 0) in
     ap (λ ys. set ys i y) (inv ∙ ap (λ ys. take i xs ++ ys) (drop_more out i 0 k)) ∙ set_at (take i xs) (get_or out i 0) (drop (i + 1) out) y i front ∙ ap (λ z. take i xs ++ (z ∷ drop (i + 1) out)) at ∙ sym (append_assoc (take i xs) (get_or xs i 0 ∷ []) (drop (i + 1) out)) ∙ ap (λ ys. ys ++ drop (i + 1) out) (sym (take_more xs i 0 long))
 
-pub fill_all : (d : Device) (o i k : ℕ) (out now : List ℕ) → k ≤ i → i ≤ k → k ≡ reach d o (length out) → now ≡ filled d o i out → now ≡ loaded d o out
-fill_all d o i k out now g h e inv = let end : i ≡ reach d o (length out) = omega arith in rw end at inv
+-- all of the run is filled, and what stands past it in the buffer stays
+pub fill_all : (d : Device) (o i k : ℕ) (out run : List ℕ) → length (take k out) ≤ i → i ≤ length (take k out) → k ≡ reach d o (length out) → run ≡ filled d o i (take k out) → run ++ drop k out ≡ loaded d o out
+fill_all d o i k out run g h e inv =
+    let end : i ≡ k = omega (arith, length-take k out) in
+    let none : drop k (take k out) ≡ [] = drop_all k (take k out) (omega arith) in
+    let full : run ≡ take k (drop o d.bytes) = inv ∙ ap (λ j. filled d o j (take k out)) end ∙ ap (λ ys. take k (drop o d.bytes) ++ ys) none ∙ append-nil (take k (drop o d.bytes)) in
+    ap (λ ys. ys ++ drop k out) full ∙ ap (λ j. filled d o j out) e
 
 nth_drop : (o : ℕ) (xs : List ℕ) (i : ℕ) → slice_get (drop o xs) i ≡ slice_get xs (o + i)
 nth_drop zero xs i = rw zero-add
@@ -45,7 +50,7 @@ nth_back (suc k) (x ∷ xs) (y ∷ ys) (suc i) h l = nth_back k xs ys i (omega a
 pub loaded_fills : (d : Device) (o : ℕ) (out now : List ℕ) → now ≡ loaded d o out → Fills d o out now
 loaded_fills d o out now e =
     record {
-      there = λ i v h f. rw e (low i h (nth_known d.bytes (o + i) v f).0 ∙ f);
+      there = λ i v h f. rw e (low i h (slice_get_within d.bytes (o + i) v f) ∙ f);
       beyond = λ i h. rw e (nth_back (reach d o (length out)) (drop o d.bytes) out i (omega arith) long);
     }
   where
@@ -112,13 +117,10 @@ module _ (m m' end : ℕ → Device) (n o b : ℕ) (bs : List ℕ) (one : Alters
 stored_alters : (bs : List ℕ) (m : ℕ → Device) (n o : ℕ) → AltersRun m (stored m n o bs) n o bs
 stored_alters [] m n o =
     record {
-      there = λ i b v k e. absurd (nth_none i b e);
+      there = λ i b v k e. absurd (omega (arith, slice_get_within [] i b e));
       elsewhere = λ q p h. refl;
       shape = record { kinds = λ q. refl; lengths = λ q. refl; masks = λ q. refl };
     }
-  where
-    nth_none : (i b : ℕ) → slice_get [] i ≡ Some b → ⊥
-    nth_none i b e = let no : ◌≡◌ {A = ℕ} 0 1 = cc in omega arith
 stored_alters (b ∷ bs) m n o =
     run_more m (wrote m n o b) (stored (wrote m n o b) n (o + 1) bs) n o b bs (wrote_alters m n o b) (stored_alters bs (wrote m n o b) n (o + 1))
 

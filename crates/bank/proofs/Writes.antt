@@ -1,9 +1,9 @@
 -- Laws of writes to devices.
-use Rattle.std.proofs.Common.{◌≡◌, ℕ, zero, suc, ◌<◌, ◌≤◌, Bool, true, false, cond, eqb, ◌≢◌, List, [], ◌∷◌, length, get_or, set, Some, sym, refl, ap, ◌∙◌, arith}
+use Rattle.std.proofs.Common.{◌≡◌, ℕ, zero, suc, ◌<◌, ◌≤◌, Bool, true, false, cond, eqb, ◌≢◌, List, [], ◌∷◌, length, get_or, set, Some, sym, refl, ap, ◌∙◌}
 use mathlib.Core.Path.{fun_ext}
 use Rattle.std.specs.List.{slice_get}
 use Rattle.std.proofs.lemmas.List.{set_past, set_comm, length-set, get_or-set_same, get_or-set_other}
-use Rattle.std.proofs.lemmas.Option.{slice_get-get_or}
+use Rattle.std.proofs.lemmas.Option.{slice_get-get_or, slice_get_within, get_or_from_slice_get}
 use Rattle.std.proofs.lemmas.Bool.{eqb-true, eq-eqb, cond-true}
 use Rattle.bank.specs.Alterations.{Apart, ShapeKept, Alters}
 use Rattle.bank.specs.Devices.{Device, masked, put, wrote}
@@ -20,12 +20,6 @@ wrote_past m n o b h = fun_ext (λ q. go q (eqb q n) refl)
     go q true e = put_past (m q) o b (rw (eqb-true q n e) h)
     go q false e = refl
 
--- what `slice_get` finds, `get_or` gives
-pub nth_known : (xs : List ℕ) (i v : ℕ) → slice_get xs i ≡ Some v → (i < length xs) × (get_or xs i 0 ≡ v)
-nth_known [] i v e = let no : ◌≡◌ {A = ℕ} 0 1 = cc in absurd (omega arith)
-nth_known (x ∷ xs) zero v e = (omega arith, cc)
-nth_known (x ∷ xs) (suc i) v e = let at = nth_known xs i v e in (omega arith, at.1)
-
 nth_set_other : (xs : List ℕ) (i j y : ℕ) → j ≢ i → slice_get (set xs i y) j ≡ slice_get xs j
 nth_set_other [] i j y h = refl
 nth_set_other (x ∷ xs) zero zero y h = absurd (h refl)
@@ -39,11 +33,12 @@ module _ (m : ℕ → Device) (n o b : ℕ) where
 
   wrote_there : (v k : ℕ) → slice_get (m n).bytes o ≡ Some v → slice_get (m n).masks o ≡ Some k → slice_get (wrote m n o b n).bytes o ≡ Some (masked v k b)
   wrote_there v k e f =
-      let at = nth_known (m n).bytes o v e in
-      let under = nth_known (m n).masks o k f in
+      let at = slice_get_within (m n).bytes o v e in
+      let old = get_or_from_slice_get (m n).bytes o v 0 e in
+      let under = get_or_from_slice_get (m n).masks o k 0 f in
       let y = masked (get_or (m n).bytes o 0) (get_or (m n).masks o 0) b in
-      let new : o < length (set (m n).bytes o y) = simp length-set at.0 in
-      ap (λ d. slice_get d.bytes o) wrote_here ∙ slice_get-get_or (set (m n).bytes o y) o 0 new ∙ ap Some (get_or-set_same (m n).bytes o y 0 at.0 ∙ cc)
+      let new : o < length (set (m n).bytes o y) = simp length-set at in
+      ap (λ d. slice_get d.bytes o) wrote_here ∙ slice_get-get_or (set (m n).bytes o y) o 0 new ∙ ap Some (get_or-set_same (m n).bytes o y 0 at ∙ cc)
 
   wrote_elsewhere : (q p : ℕ) → Apart n o q p → slice_get (wrote m n o b q).bytes p ≡ slice_get (m q).bytes p
   wrote_elsewhere q p h = go (eqb q n) refl

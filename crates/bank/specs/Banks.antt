@@ -1,24 +1,26 @@
--- The devices of RAM, ROM and registers: over the fields of the banks, and as they are made.
-use Rattle.std.specs.Prelude.{ℕ, cond, ◌&&◌, List, length, take, replicate, nat_le}
+-- The devices of RAM, ROM and registers: over the fields of their chips, and as they are made.
+use Rattle.std.specs.Prelude.{ℕ, cond, ◌&&◌, List, length, take, replicate, map, nat_le}
 use Rattle.model.specs.declared.kinds.Kind.{Kind}
 use Rattle.model.specs.declared.kinds.Kind.TheVariants.{Ram, Rom, Reg}
 use Rattle.bank.specs.Devices.{Device}
+use Rattle.bank.specs.declared.front.Front.{Front}
+use Rattle.bank.specs.declared.register.Register.{Register}
 
 -- the first n bytes of an array, all under one mask
 abbrev pub front : Kind → ℕ → List ℕ → ℕ → Device
 front kind mask bytes n = record { kind = kind; bytes = take n bytes; masks = replicate n mask }
 
 -- RAM, which a write alters whole
-abbrev pub ram_of : List ℕ → ℕ → Device
-ram_of = front Ram 255
+abbrev pub ram_of : Front → Device
+ram_of f = front Ram 255 f.bytes f.shown
 
 -- ROM, which no write alters
-abbrev pub rom_of : List ℕ → ℕ → Device
-rom_of = front Rom 0
+abbrev pub rom_of : Front → Device
+rom_of f = front Rom 0 f.bytes f.shown
 
 -- registers, each byte under a mask of its own
-abbrev pub registers_of : List ℕ → List ℕ → Device
-registers_of bytes masks = record { kind = Reg; bytes = bytes; masks = masks }
+abbrev pub registers_of : List Register → Device
+registers_of rs = record { kind = Reg; bytes = map (λ r. r.value) rs; masks = map (λ r. r.mask) rs }
 
 -- the length that RAM shows where n is asked for
 abbrev pub shown_for : ℕ → ℕ

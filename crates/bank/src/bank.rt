@@ -12,6 +12,7 @@ use model::kinds::Kind;
 #[derive(Clone, Copy, Debug, PartialEq, Eq)]
 pub struct PastEnd;
 
+// A device and an offset stand apart in each call: callers keep the device and count the offset on.
 pub trait Bank {
     // What the bank means. A number that it gives no device has the absent one.
     ghost devices: { Self → ℕ → Device };

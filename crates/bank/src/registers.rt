@@ -1,68 +1,73 @@
 // Registers: device 0 alone, 256 bytes, each with its own mask of the bits that a write alters.
-ghost use Rattle.std.specs.Prelude.{◌≡◌, ℕ, ◌<◌, length, slice_index};
+ghost use Rattle.std.specs.Prelude.{◌≡◌, length};
+ghost use Rattle.std.specs.List.{slice_get};
 ghost use Rattle.bank.specs.Devices.{single};
 ghost use Rattle.bank.specs.Banks.{registers_of, cleared};
-ghost use Rattle.bank.specs.Soundness.{registers_kept};
+ghost use Rattle.bank.specs.Soundness.{registers_sound};
 
 use crate::bank::{Bank, PastEnd};
+use crate::chip::Chip;
+use crate::lone::Lone;
+use crate::register::Register;
 use model::kinds::Kind;
 
 #[derive(Drop)]
-pub struct Registers {
-    bytes: [u8; 256],
-    masks: [u8; 256],
-    ghost whole: { length bytes ≡ 256 },
-    ghost level: { length masks ≡ 256 },
-    ghost small: { (i : ℕ) → slice_index bytes i < 256 },
-    ghost narrow: { (i : ℕ) → slice_index masks i < 256 },
+pub struct RegisterChip {
+    registers: [Register; 256],
+    ghost whole: { length registers ≡ 256 },
 }
 
-impl Registers {
+pub type Registers = Lone<RegisterChip>;
+
+impl Lone<RegisterChip> {
     // Registers that are 0, with these masks.
     pub fn new(masks: [u8; 256]) -> Registers
-        ensures { registers_of result.bytes result.masks ≡ cleared masks }
+        ensures { ⟦<Registers as Bank>⟧.devices result ≡ single (cleared masks) }
     {
-        Registers {
-            bytes: [0u8; 256],
-            masks,
+        let registers = masks.map(|mask| Register { value: 0, mask });
+        Lone {
+            chip: RegisterChip { registers },
         }
     }
 }
 
-impl Bank for Registers {
-    ghost devices = { λ s. single (registers_of s.bytes s.masks) };
+impl RegisterChip {
+    // The register, or none past the last. A cast, since a place has as many bits as an offset.
+    fn get(&self, offset: u64) -> Option<Register>
+        ensures { result ≡ slice_get self.now.registers offset }
+    {
+        self.registers.get(offset as usize).copied()
+    }
+}
 
-    ghost sound = { λ s. registers_kept s.bytes s.masks s.whole s.level s.small s.narrow };
+impl Chip for RegisterChip {
+    ghost contents = { λ s. registers_of s.registers };
 
-    fn kind(&self, device: u16) -> Kind {
-        if device == 0 { Kind::Reg } else { Kind::Rom }
+    ghost sound = { λ s. registers_sound s.registers s.whole };
+
+    fn kind(&self) -> Kind {
+        Kind::Reg
     }
 
-    fn len(&self, device: u16) -> u64 {
-        if device == 0 { 256 } else { 0 }
+    fn len(&self) -> u64 {
+        256
     }
 
-    fn mask(&self, device: u16, offset: u64) -> Option<u8> {
-        if offset >= self.len(device) {
-            return None;
-        }
-        Some(self.masks[offset as usize])
+    fn mask(&self, offset: u64) -> Option<u8> {
+        self.get(offset).map(|register| register.mask)
     }
 
-    fn read(&self, device: u16, offset: u64) -> Option<u8> {
-        if offset >= self.len(device) {
-            return None;
-        }
-        Some(self.bytes[offset as usize])
+    fn read(&self, offset: u64) -> Option<u8> {
+        self.get(offset).map(|register| register.value)
     }
 
-    fn write(&mut self, device: u16, offset: u64, byte: u8) -> Result<(), PastEnd> {
-        if offset >= self.len(device) {
+    // By index, since a proof knows nothing of the element that `get_mut` lends.
+    fn write(&mut self, offset: u64, byte: u8) -> Result<(), PastEnd> {
+        if offset >= self.len() {
             return Err(PastEnd);
         }
         let at = offset as usize;
-        let mask = self.masks[at];
-        self.bytes[at] = (self.bytes[at] & !mask) | (byte & mask);
+        self.registers[at] = self.registers[at].after(byte);
         Ok(())
     }
 }

@@ -5,7 +5,8 @@ ghost use Rattle.bank.specs.Transfers.{reach, loaded, Fills, stored};
 
 use crate::bank::Bank;
 
-// How many of `count` bytes from the offset on the device has.
+// How many of `count` bytes from the offset on the device has. The casts in this file lose nothing: a
+// place has as many bits as an offset.
 fn run_length<B: Bank>(bank: &B, device: u16, offset: u64, count: usize) -> usize
     ensures { result ≡ reach (B.Bank.devices bank.now device) offset count }
 {
@@ -21,9 +22,11 @@ pub fn load<B: Bank>(bank: &B, device: u16, offset: u64, out: &mut [u8]) -> usiz
     ensures fills { Fills (B.Bank.devices bank.now device) offset out.old out.new }
 {
     let count = run_length(bank, device, offset, out.len());
-    for i in 0..count {
+    let run = &mut out[..count];
+    // The place in the run says how far past the offset its byte is.
+    for (i, slot) in run.iter_mut().enumerate() {
         if let Some(byte) = bank.read(device, offset + i as u64) {
-            out[i] = byte;
+            *slot = byte;
         }
     }
     count
@@ -37,8 +40,8 @@ pub fn store<B: Bank>(bank: &mut B, device: u16, offset: u64, bytes: &[u8]) -> u
     ensures alters { AltersRun (B.Bank.devices bank.old) (B.Bank.devices bank.new) device offset bytes.now }
 {
     let count = run_length(bank, device, offset, bytes.len());
-    for i in 0..count {
-        let _ = bank.write(device, offset + i as u64, bytes[i]);
+    for (i, byte) in bytes[..count].iter().enumerate() {
+        let _ = bank.write(device, offset + i as u64, *byte);
     }
     count
 }

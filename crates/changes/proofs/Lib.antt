@@ -1,4 +1,3 @@
-pub mod Sets
 pub mod Items
 pub mod Tables
 pub mod Texts

@@ -3,28 +3,24 @@ use Rattle.std.proofs.Common.{◌≡◌, ℕ, ◌<◌, ◌≤◌, List, ◌++◌
 use Rattle.std.proofs.lemmas.List.{take_at}
 use Rattle.model.specs.declared.changes.Change.{Change}
 use Rattle.changes.specs.Lines.{text_of, Spells}
-use Rattle.changes.specs.Shapes.{NoList, Counted, Stored}
-use Rattle.changes.specs.Calls.{Holds, Written, Read, Back, RoundTrip}
+use Rattle.changes.specs.Shapes.{Counted, Stored}
+use Rattle.changes.specs.Calls.{Written, Read, RoundTrip}
 use Rattle.changes.proofs.Tables.{spells_same}
 
-module _ (bytes : List ℕ) (old : List Change) where
-  pub read_none : (r : Option ℕ) → r ≡ None → NoList bytes → Read bytes old old r
-  read_none r e none = subst (Read bytes old old) (sym e) ((λ cs s short. none cs s), refl)
+module _ (bytes : List ℕ) (old : List Change) (n : ℕ) (found : Counted bytes n) where
+  only : (ds : List Change) → Spells bytes ds → ds ≡ found.0
+  only ds s = spells_same bytes found.0 ds found.1 s
 
-  module _ (n : ℕ) (found : Counted bytes n) where
-    only : (ds : List Change) → Spells bytes ds → ds ≡ found.0
-    only ds s = spells_same bytes found.0 ds found.1 s
+  pub read_short : length old < n → Read bytes old old None
+  read_short h = ((λ ds s short. omega (arith, ap length (only ds s), found.2)), refl)
 
-    pub read_short : length old < n → Read bytes old old None
-    read_short h = ((λ ds s short. omega (arith, ap length (only ds s), found.2)), refl)
-
-    pub read_some : (new : List Change) → n ≤ length old → Stored bytes old new → Read bytes old new (Some n)
-    read_some new h stored =
-        let short : length found.0 ≤ length old = omega (arith, found.2) in (
-          found.0,
-          record { spelt = found.1; only = only; short = short },
-          record { count = sym found.2; table = stored found.0 found.1 short ∙ ap (λ k. found.0 ++ drop k old) found.2 },
-        )
+  pub read_some : (new : List Change) → n ≤ length old → Stored bytes old new → Read bytes old new (Some n)
+  read_some new h stored =
+      let short : length found.0 ≤ length old = omega (arith, found.2) in (
+        found.0,
+        record { spelt = found.1; only = only; short = short },
+        record { count = sym found.2; table = stored found.0 found.1 short ∙ ap (λ k. found.0 ++ drop k old) found.2 },
+      )
 
 spelt : (cs : List Change) (old new : List ℕ) (n : ℕ) → Written cs old new (Some n) → Spells (take n new) cs
 spelt cs old new n w =
@@ -48,17 +44,3 @@ round_trip =
       no_other = read_text;
       apart = λ cs ds a b e. spells_same (text_of cs) ds cs (e, b) (refl, a);
     }
-
-module _ (cs : List Change) (buffer : List ℕ) (records : List Change) where
-  pub back_short : length records < length cs → Back cs buffer buffer records records None
-  back_short h = ((λ f short. omega arith), refl, refl)
-
-  pub back_none : (buffer' : List ℕ) (r : Option ℕ) → r ≡ None → Written cs buffer buffer' None → Back cs buffer buffer' records records r
-  back_none buffer' r e w = subst (Back cs buffer buffer' records records) (sym e) ((λ f short. w.0 f), w.1, refl)
-
-  pub back_some : (buffer' : List ℕ) (n : ℕ) (records' : List Change) (r : Option ℕ) → length cs ≤ length records → Written cs buffer buffer' (Some n) → Read (take n buffer') records records' r → Back cs buffer buffer' records records' r
-  back_some buffer' n records' r short w h =
-      let e = round_trip.back cs buffer buffer' n records records' r w h short in
-      let k : n ≡ length (text_of cs) = w.1.count in
-      subst (Back cs buffer buffer' records records') (sym e.0)
-      (w.0, short, subst (Holds (text_of cs) buffer buffer') k w.1, record { count = refl; table = e.1 })

@@ -1,19 +1,31 @@
 -- Lists of lines.
-use Rattle.std.proofs.Common.{◌≡◌, ℕ, ◌+◌, ◌<◌, ◌≤◌, Bool, false, List, [], ◌∷◌, ◌++◌, length, get_or, drop, set, Decides, sym, refl, ap, ◌∙◌, subst, append_assoc, append-nil, arith}
+use Rattle.std.proofs.Common.{◌≡◌, ℕ, ◌+◌, ◌<◌, ◌≤◌, Bool, false, List, [], ◌∷◌, ◌++◌, length, get_or, drop, set, Ok, Err, Some, None, Result, Decides, sym, refl, ap, ◌∙◌, subst, append_assoc, append-nil, arith}
 use Rattle.std.specs.List.{AllByRecursion}
 use Rattle.std.proofs.lemmas.List.{append_cancel_left, length-append, set_at, drop_more, length_push, flat_map_more}
 use Rattle.std.proofs.ByRecursion.{All-push}
 use Rattle.std.proofs.lemmas.Bool.Decides.{not_from_Decides}
 use Rattle.lexis.specs.Lang.{Got}
+use Rattle.lexis.specs.declared.lost.Lost.{Lost as Failed}
+use Rattle.lexis.specs.declared.reader.Reader.{Reader}
+use Rattle.lexis.specs.Moving.{Moves, rest_of, lost_of}
+use Rattle.lexis.proofs.Steps.{read_got, read_lost}
+use Rattle.std.specs.Result.{result_ok}
 use Rattle.model.specs.declared.changes.Change.{Change}
 use Rattle.model.specs.declared.changes.Change.TheVariants.{Removal, Addition}
 use Rattle.changes.specs.Lines.{line, text_of, Writable, Spells}
 use Rattle.changes.specs.Shapes.{Shaped, Lined, NoLine}
 use Rattle.changes.proofs.Items.{shaped_free, lined_shaped, lined_free}
 
--- a line of the right shape, and whether it may stand in a list
-pub shaped_lined : (x : List ℕ) (c : Change) (y z : List ℕ) → z ≡ y → Got Shaped x c y → Writable c → Got Lined x c z
-shaped_lined x c y z e g h = record { front = g.front; split = g.split ∙ ap (λ l. g.front ++ l) (sym e); word = (g.word.0, h) }
+-- what a reader of the bytes x found that went over a line of the right shape
+module _ (s t : Reader) (x : List ℕ) (had : rest_of s ≡ x) where
+  pub read_line : (r : Result Change Failed) (c : Change) → Moves Shaped s r t → Some c ≡ result_ok r → Got Shaped x c (rest_of t)
+  read_line (Ok d) c m e = let f : d ≡ c = cc in subst (λ k. Got Shaped x k (rest_of t)) f (read_got Shaped s t d x had m)
+  read_line (Err d) c m e = absurd (let f : ◌≡◌ {A = ℕ} 0 1 = cc in omega arith)
+
+  -- or that there is none
+  pub read_no_line : lost_of s ≡ None → (r : Result Change Failed) → Moves Shaped s r t → None ≡ result_ok r → NoLine x
+  read_no_line fresh (Ok d) m e = absurd (let f : ◌≡◌ {A = ℕ} 0 1 = cc in omega arith)
+  read_no_line fresh (Err d) m e = λ c w z f h. (read_lost Shaped s t d x had fresh m).0.none c w z f (lined_shaped w c h)
 
 pub unwritable : (x : List ℕ) (c : Change) (y : List ℕ) (r : Bool) → Got Shaped x c y → Decides r (Writable c) → r ≡ false → NoLine x
 unwritable x c y r g d f b w z e h =

@@ -1,21 +1,20 @@
 -- The text of a list, line by line into a buffer.
-use Rattle.std.proofs.Common.{◌≡◌, ℕ, ◌+◌, ◌-◌, ◌^◌, ◌<◌, ◌≤◌, Bool, true, false, List, [], ◌∷◌, ◌++◌, length, get_or, take, drop, Some, None, codes, Decides, Option, sym, refl, ap, ◌∙◌, subst, append_assoc, arith}
+use Rattle.std.proofs.Common.{◌≡◌, ℕ, ◌+◌, ◌-◌, ◌^◌, ◌<◌, ◌≤◌, Bool, true, false, List, [], ◌∷◌, ◌++◌, length, get_or, take, drop, Some, None, codes, Decides, Option, sym, refl, ap, ◌∙◌, append_assoc, arith}
 use Rattle.std.specs.List.{AllByRecursion}
-use Rattle.std.proofs.lemmas.List.{length-append, take_more, take_all, take-append-drop, take_at, drop_at, drop-drop}
-use Rattle.std.proofs.ByRecursion.{All-get_or, All-more}
+use Rattle.std.proofs.lemmas.List.{length-append, take_more, take-append-drop, take_at, drop_at, drop-drop}
 use Rattle.std.proofs.lemmas.Bool.{cond-true, le-leb}
-use Rattle.std.proofs.lemmas.Bool.Decides.{not_from_Decides}
 use Rattle.lexis.specs.Shown.{fits, past, placed}
 use Rattle.lexis.proofs.Glyphs.{numeral_short}
 use Rattle.model.specs.declared.kinds.Kind.{Kind}
 use Rattle.model.specs.declared.kinds.Kind.TheVariants.{Ram, Rom, Reg}
 use Rattle.model.specs.declared.changes.Change.{Change}
 use Rattle.model.specs.Ranges.{Range}
-use Rattle.changes.specs.declared.words.Sign.{Sign}
-use Rattle.changes.specs.declared.words.Sign.TheVariants.{Plus, Minus}
-use Rattle.changes.specs.Words.{sign_text, kind_name, yes_or_no}
-use Rattle.changes.specs.Lines.{hex, sign_of, range_of, line, text_of, Writable}
-use Rattle.changes.specs.Calls.{Fits, Holds}
+use Rattle.model.specs.declared.changes.Action.{Action}
+use Rattle.model.specs.declared.changes.Action.TheVariants as action
+use Rattle.model.specs.Changes.{action_of, range_of}
+use Rattle.changes.specs.Words.{action_text, kind_text, writes_text}
+use Rattle.changes.specs.Lines.{hex, line, text_of, Writable}
+use Rattle.changes.specs.Calls.{Fits}
 use Rattle.changes.proofs.Tables.{text_push}
 
 -- the parts of a line, with its words as they were found
@@ -24,20 +23,20 @@ spelled s r k w =
     codes "(" ++ (s ++ (codes " (at " ++ (hex r.start ++ (codes ") (length " ++ (hex r.length ++ (codes ") (leaf " ++ (hex r.label.leaf
     ++ (codes " (device " ++ (hex r.label.device ++ (codes ") (offset " ++ (hex r.label.offset ++ (codes ")) (kind " ++ (k ++ (codes ") (writes " ++ (w ++ codes "))\n")))))))))))))))
 
-pub spelled_line : (c : Change) (r : Range) (s k w : List ℕ) → r ≡ range_of c → s ≡ sign_text (sign_of c) → k ≡ kind_name r.label.kind → w ≡ yes_or_no r.label.writes → spelled s r k w ≡ line c
+pub spelled_line : (c : Change) (r : Range) (s k w : List ℕ) → r ≡ range_of c → s ≡ action_text (action_of c) → k ≡ kind_text r.label.kind → w ≡ writes_text r.label.writes → spelled s r k w ≡ line c
 spelled_line c r s k w er es ek ew =
-    λ i. spelled (es i) (er i) ((ek ∙ ap (λ q. kind_name q.label.kind) er) i) ((ew ∙ ap (λ q. yes_or_no q.label.writes) er) i)
+    λ i. spelled (es i) (er i) ((ek ∙ ap (λ q. kind_text q.label.kind) er) i) ((ew ∙ ap (λ q. writes_text q.label.writes) er) i)
 
-sign_short : (s : Sign) → length (sign_text s) ≤ 1
-sign_short Plus = omega arith
-sign_short Minus = omega arith
+action_short : (a : Action) → length (action_text a) ≤ 1
+action_short action.Addition = omega arith
+action_short action.Removal = omega arith
 
-kind_short : (k : Kind) → length (kind_name k) ≤ 3
+kind_short : (k : Kind) → length (kind_text k) ≤ 3
 kind_short Ram = omega arith
 kind_short Rom = omega arith
 kind_short Reg = omega arith
 
-writes_short : (b : Bool) → length (yes_or_no b) ≤ 3
+writes_short : (b : Bool) → length (writes_text b) ≤ 3
 writes_short true = omega arith
 writes_short false = omega arith
 
@@ -60,7 +59,7 @@ line_short c h =
       n r.label.leaf h.leaf,
       n r.label.device h.device,
       n r.label.offset h.offset,
-      sign_short (sign_of c),
+      action_short (action_of c),
       kind_short r.label.kind,
       writes_short r.label.writes,
     ))
@@ -93,16 +92,9 @@ module _ (cs : List Change) (i : ℕ) (d : Change) (below : i < length cs) where
   grown : (k : ℕ) → k ≡ length (line (get_or cs i d)) → length (text_of (take (i + 1) cs)) ≡ length (text_of (take i cs)) + k
   grown k e = ap length text_more ∙ length-append (text_of (take i cs)) (line (get_or cs i d)) ∙ ap (λ m. length (text_of (take i cs)) + m) (sym e)
 
-  pub one_not : (room : ℕ) (r : Bool) → Decides r (Writable (get_or cs i d)) → r ≡ false → Decides false (Fits cs room)
-  one_not room r w e = unfit (Fits cs room) (λ h. not_from_Decides r w e (All-get_or Writable cs i d below h.each))
-
   module _ (room n k : ℕ) (passed : Passed cs room i n) (is : k ≡ length (line (get_or cs i d))) where
     pub too_long : room - n < k → Decides false (Fits cs room)
     too_long h = unfit (Fits cs room) (λ f. omega (arith, grown k is, text_within cs (i + 1), f.short, passed.count, passed.short))
-
-    pub one_more : (r : Bool) → Decides r (Writable (get_or cs i d)) → r ≡ true → k ≤ room - n → Passed cs room (i + 1) (n + k)
-    one_more r w e h =
-        record { each = All-more Writable cs i d below passed.each (w.0 e); count = omega (arith, grown k is, passed.count); short = omega (arith, passed.short) }
 
   module _ (es bs l : List ℕ) (at : ℕ) (whole : Fits cs (length es)) (kept : length bs ≡ length es) (is : l ≡ line (get_or cs i d)) (so_far : Standing cs es i at bs) where
     ends : at + length l ≡ length (text_of (take (i + 1) cs))
@@ -128,13 +120,3 @@ module _ (cs : List Change) (i : ℕ) (d : Change) (below : i < length cs) where
           count = n ∙ ends;
           table = g ∙ cond-true (fits l at bs) _ _ room ∙ (λ j. front j ++ (is j ++ back j)) ∙ sym (append_assoc (text_of (take i cs)) (line (get_or cs i d)) (drop k es)) ∙ ap (λ t. t ++ drop k es) (sym text_more);
         }
-
-pub all_passed : (cs : List Change) (room i n : ℕ) → length cs ≤ i → Passed cs room i n → Decides true (Fits cs room)
-all_passed cs room i n h p =
-    let e = take_all i cs h in
-    ((λ t. record { each = subst (AllByRecursion Writable) e p.each; short = omega (arith, ap (λ l. length (text_of l)) e, p.count, p.short) }), λ f. refl)
-
-pub all_standing : (cs : List Change) (es : List ℕ) (i at : ℕ) (bs : List ℕ) → length cs ≤ i → Standing cs es i at bs → Holds (text_of cs) es bs at
-all_standing cs es i at bs h s =
-    let e = ap text_of (take_all i cs h) in
-    record { count = s.count ∙ ap length e; table = s.table ∙ ap (λ l. l ++ drop at es) e }

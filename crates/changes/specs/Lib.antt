@@ -1,4 +1,5 @@
 pub mod Words
+pub mod WordSets
 pub mod Lines
 pub mod Shapes
 pub mod Calls

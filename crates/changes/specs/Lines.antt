@@ -4,45 +4,31 @@ use Rattle.std.specs.List.{flat_map, AllByRecursion}
 use Rattle.lexis.specs.Numeral.{numeral}
 use Rattle.model.specs.declared.kinds.Kind.TheVariants.{Rom}
 use Rattle.model.specs.declared.changes.Change.{Change}
-use Rattle.model.specs.declared.changes.Change.TheVariants.{Removal, Addition}
 use Rattle.model.specs.Ranges.{Range}
-use Rattle.changes.specs.declared.words.Sign.{Sign}
-use Rattle.changes.specs.declared.words.Sign.TheVariants.{Plus, Minus}
-use Rattle.changes.specs.Words.{sign_text, kind_name, yes_or_no}
-
--- a change is a sign and a range
-abbrev pub sign_of : Change → Sign
-sign_of (Addition r) = Plus
-sign_of (Removal r) = Minus
-
-abbrev pub range_of : Change → Range
-range_of (Addition r) = r
-range_of (Removal r) = r
-
-abbrev pub signed : Sign → Range → Change
-signed Plus r = Addition r
-signed Minus r = Removal r
+use Rattle.model.specs.declared.changes.Action.{Action}
+use Rattle.model.specs.Changes.{action_of, range_of}
+use Rattle.changes.specs.Words.{action_text, kind_text, writes_text}
 
 -- hexadecimal, lower case, without leading zeros
 abbrev pub hex : ℕ → List ℕ
 hex n = numeral 16 n
 
 -- the pieces of a line, in turn
-abbrev pub pieces : Sign → Range → List (List ℕ)
-pieces s r =
-    codes "(" ∷ sign_text s
+abbrev pub pieces : Action → Range → List (List ℕ)
+pieces a r =
+    codes "(" ∷ action_text a
     ∷ codes " (at " ∷ hex r.start
     ∷ codes ") (length " ∷ hex r.length
     ∷ codes ") (leaf " ∷ hex r.label.leaf
     ∷ codes " (device " ∷ hex r.label.device
     ∷ codes ") (offset " ∷ hex r.label.offset
-    ∷ codes ")) (kind " ∷ kind_name r.label.kind
-    ∷ codes ") (writes " ∷ yes_or_no r.label.writes
+    ∷ codes ")) (kind " ∷ kind_text r.label.kind
+    ∷ codes ") (writes " ∷ writes_text r.label.writes
     ∷ codes "))\n" ∷ []
 
 -- the line of a change, which ends with a line feed
 abbrev pub line : Change → List ℕ
-line c = flat_map (λ w. w) (pieces (sign_of c) (range_of c))
+line c = flat_map (λ w. w) (pieces (action_of c) (range_of c))
 
 -- the text of a change list: its lines, one after another
 abbrev pub text_of : List Change → List ℕ

@@ -2,7 +2,8 @@
 use Rattle.std.specs.Prelude.{◌≡◌, ℕ, ◌^◌, ◌≤◌, List, ◌++◌, length as len, drop}
 use Rattle.model.specs.declared.changes.Change.{Change}
 use Rattle.model.specs.Ranges.{Range}
-use Rattle.changes.specs.Lines.{range_of, line, Writable, Spells}
+use Rattle.model.specs.Changes.{range_of}
+use Rattle.changes.specs.Lines.{line, Writable, Spells}
 
 -- the numbers of a range are those that a line has room for
 pub record Fitting (r : Range) : Type 0 where

@@ -1,42 +1,39 @@
 -- The words of a change line.
-use Rattle.std.specs.Prelude.{ℕ, Bool, true, false, List, [], ◌∷◌, codes}
+use Rattle.std.specs.Prelude.{ℕ, Bool, true, false, List, [], ◌∷◌, map, codes}
+use Rattle.model.specs.declared.changes.Action.{Action}
+use Rattle.model.specs.declared.changes.Action.TheVariants.{Removal, Addition}
 use Rattle.model.specs.declared.kinds.Kind.{Kind}
 use Rattle.model.specs.declared.kinds.Kind.TheVariants.{Ram, Rom, Reg}
-use Rattle.changes.specs.declared.words.Sign.{Sign}
-use Rattle.changes.specs.declared.words.Sign.TheVariants.{Plus, Minus}
-use Rattle.changes.specs.declared.words.KindWord.{KindWord}
-use Rattle.changes.specs.declared.words.WritesWord.{WritesWord}
+use Rattle.changes.specs.declared.words.Word.{Word}
 
-abbrev pub sign_text : Sign → List ℕ
-sign_text Plus = codes "+"
-sign_text Minus = codes "-"
+abbrev pub action_text : Action → List ℕ
+action_text Addition = codes "+"
+action_text Removal = codes "-"
 
-abbrev pub signs : List Sign
-signs = Plus ∷ Minus ∷ []
+abbrev pub actions : List Action
+actions = Addition ∷ Removal ∷ []
 
-abbrev pub kind_name : Kind → List ℕ
-kind_name Ram = codes "ram"
-kind_name Rom = codes "rom"
-kind_name Reg = codes "reg"
+abbrev pub kind_text : Kind → List ℕ
+kind_text Ram = codes "ram"
+kind_text Rom = codes "rom"
+kind_text Reg = codes "reg"
 
-abbrev pub kind_text : KindWord → List ℕ
-kind_text w = kind_name w.kind
+abbrev pub kinds : List Kind
+kinds = Ram ∷ Rom ∷ Reg ∷ []
 
-abbrev pub as_kind : Kind → KindWord
-as_kind k = record { kind = k }
+abbrev pub writes_text : Bool → List ℕ
+writes_text true = codes "yes"
+writes_text false = codes "no"
 
-abbrev pub kinds : List KindWord
-kinds = as_kind Ram ∷ as_kind Rom ∷ as_kind Reg ∷ []
+abbrev pub verdicts : List Bool
+verdicts = true ∷ false ∷ []
 
-abbrev pub yes_or_no : Bool → List ℕ
-yes_or_no true = codes "yes"
-yes_or_no false = codes "no"
+-- the texts of words, and words of values
+abbrev pub spelt : {T : Type 0} → (T → List ℕ) → Word T → List ℕ
+spelt text w = text w.0
 
-abbrev pub writes_text : WritesWord → List ℕ
-writes_text w = yes_or_no w.writes
+abbrev pub worded : {T : Type 0} → T → Word T
+worded x = record { 0 = x }
 
-abbrev pub as_writes : Bool → WritesWord
-as_writes b = record { writes = b }
-
-abbrev pub verdicts : List WritesWord
-verdicts = as_writes true ∷ as_writes false ∷ []
+abbrev pub words : {T : Type 0} → List T → List (Word T)
+words xs = map worded xs

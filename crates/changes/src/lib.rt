@@ -1,7 +1,6 @@
 // Change lists as text: one line to a change, written and read exactly.
 #![tactic(auto)]
 
-mod parts;
 pub mod read;
 pub mod round_trip;
 mod words;

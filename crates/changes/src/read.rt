@@ -1,41 +1,49 @@
 // Reading change lists.
+ghost use Rattle.std.specs.Prelude.{◌≤◌, IfOk};
 ghost use Rattle.std.specs.Option.{MatchOption};
-ghost use Rattle.lexis.specs.Lang.{Got};
+ghost use Rattle.lexis.specs.Lang.{Got, After};
 ghost use Rattle.lexis.specs.Moving.{Moves};
+ghost use Rattle.lexis.specs.Numeral.{Number};
 ghost use Rattle.changes.specs.Shapes.{Shaped, Lined, NoLine, NoList, Counted, Stored};
 ghost use Rattle.changes.specs.Calls.{Read};
 
-use crate::parts::signed_range;
-use crate::words::{KindWord, Sign, WritesWord};
+use crate::words::Word;
 use crate::writable::{LAST_LEAF, is_writable};
 use interval::stretches::TOP;
+use lexis::lost::Lost;
 use lexis::reader::Reader;
 use lexis::tokens::Divider;
-use model::changes::Change;
+use model::changes::{Action, Change};
+use model::kinds::Kind;
 use model::places::Place;
 use model::ranges::Range;
 
+// Goes over `text`, and then a number up to `most` and the divider `end`.
+fn number_after(reader: &mut Reader, text: &[u8], most: u64, end: Divider) -> Result<u64, Lost>
+    ensures moves { Moves (After text.now (Number 16 most end)) reader.old result reader.new }
+    ensures small { IfOk result (λ n. n ≤ most) }
+{
+    reader.literal(text)?;
+    reader.number(most, end)
+}
+
 // Goes over a change line of the right shape.
-fn shaped_line(reader: &mut Reader) -> Change
+fn shaped_line(reader: &mut Reader) -> Result<Change, Lost>
     ensures { Moves Shaped reader.old result reader.new }
 {
-    reader.literal(b"(");
-    let sign = reader.choice::<Sign>();
-    reader.literal(b" (at ");
-    let start = reader.number(TOP, Divider::Close);
-    reader.literal(b" (length ");
-    let length = reader.number(TOP, Divider::Close);
-    reader.literal(b" (leaf ");
-    let leaf = reader.number(LAST_LEAF as u64, Divider::Space);
-    reader.literal(b"(device ");
-    let device = reader.number(u16::MAX as u64, Divider::Close);
-    reader.literal(b" (offset ");
-    let offset = reader.number(TOP, Divider::Close);
-    reader.literal(b") (kind ");
-    let kind = reader.choice::<KindWord>().kind;
-    reader.literal(b") (writes ");
-    let writes = reader.choice::<WritesWord>().writes;
-    reader.literal(b"))\n");
+    reader.literal(b"(")?;
+    let Word(action) = reader.choice::<Word<Action>>()?;
+    let start = number_after(reader, b" (at ", TOP, Divider::Close)?;
+    let length = number_after(reader, b" (length ", TOP, Divider::Close)?;
+    let leaf = number_after(reader, b" (leaf ", u64::from(LAST_LEAF), Divider::Space)?;
+    let device = number_after(reader, b"(device ", u64::from(u16::MAX), Divider::Close)?;
+    let offset = number_after(reader, b" (offset ", TOP, Divider::Close)?;
+    reader.literal(b") (kind ")?;
+    let Word(kind) = reader.choice::<Word<Kind>>()?;
+    reader.literal(b") (writes ")?;
+    let Word(writes) = reader.choice::<Word<bool>>()?;
+    reader.literal(b"))\n")?;
+    // The casts lose nothing, since the limits above are below 2^8 and 2^16.
     let label = Place {
         leaf: leaf as u8,
         device: device as u16,
@@ -48,7 +56,7 @@ fn shaped_line(reader: &mut Reader) -> Change
         length,
         label,
     };
-    signed_range(sign, range)
+    Ok(action.entry(range))
 }
 
 // The line at the front of `bytes`, and the rest.
@@ -56,17 +64,15 @@ fn change_at(bytes: &[u8]) -> Option<(Change, &[u8])>
     ensures { MatchOption result (NoLine bytes.now) (λ p. Got Lined bytes.now p.0 p.1.now) }
 {
     let mut reader = Reader::new(bytes);
-    let change = shaped_line(&mut reader);
-    if reader.is_lost() {
-        return None;
-    }
+    let change = shaped_line(&mut reader).ok()?;
     if !is_writable(&change) {
         return None;
     }
     Some((change, reader.rest()))
 }
 
-// How many lines `bytes` is.
+// How many lines `bytes` is. No iterator over the lines, since one that ends can't tell the end of the bytes from a
+// line that fails.
 fn count_lines(bytes: &[u8]) -> Option<usize>
     ensures { MatchOption result (NoList bytes.now) (λ n. Counted bytes.now n) }
 {
@@ -85,14 +91,12 @@ fn store_changes(bytes: &[u8], records: &mut [Change])
     ensures { Stored bytes.now records.old records.new }
 {
     let mut rest = bytes;
-    let mut n = 0;
-    while n < records.len() {
+    for record in records.iter_mut() {
         let Some((change, after)) = change_at(rest) else {
             return;
         };
-        records[n] = change;
+        *record = change;
         rest = after;
-        n += 1;
     }
 }
 

@@ -1,54 +1,47 @@
 // The words of a change line.
-ghost use Rattle.changes.specs.Words.{sign_text, signs, kind_text, kinds, writes_text, verdicts};
+ghost use Rattle.changes.specs.Words.{spelt, words, action_text, actions, kind_text, kinds, writes_text, verdicts};
+ghost use Rattle.changes.specs.WordSets.{action_set, kind_set, writes_set};
 
 use lexis::keyword::Keyword;
+use model::changes::Action;
 use model::kinds::Kind;
 
-// Whether a range comes or goes.
+// A value as a word of a line; the wrapper is there since the values are other crates' types.
 #[derive(Clone, Copy)]
-pub(crate) enum Sign {
-    Plus,
-    Minus,
-}
+pub(crate) struct Word<T>(pub(crate) T);
 
-impl Keyword for Sign {
-    ghost word = { sign_text };
+impl Keyword for Word<Action> {
+    ghost word = { spelt action_text };
 
-    ghost all = { signs };
+    ghost all = { words actions };
 
-    fn all() -> &'static [Sign] {
-        &[Sign::Plus, Sign::Minus]
+    ghost lawful = { action_set };
+
+    fn all() -> &'static [Word<Action>] {
+        &[Word(Action::Addition), Word(Action::Removal)]
     }
 
     fn word(self) -> &'static [u8] {
-        match self {
-            Sign::Plus => b"+",
-            Sign::Minus => b"-",
+        match self.0 {
+            Action::Addition => b"+",
+            Action::Removal => b"-",
         }
     }
 }
 
-// A kind as a word.
-#[derive(Clone, Copy)]
-pub(crate) struct KindWord {
-    pub(crate) kind: Kind,
-}
+impl Keyword for Word<Kind> {
+    ghost word = { spelt kind_text };
 
-impl Keyword for KindWord {
-    ghost word = { kind_text };
+    ghost all = { words kinds };
 
-    ghost all = { kinds };
+    ghost lawful = { kind_set };
 
-    fn all() -> &'static [KindWord] {
-        &[
-            KindWord { kind: Kind::Ram },
-            KindWord { kind: Kind::Rom },
-            KindWord { kind: Kind::Reg },
-        ]
+    fn all() -> &'static [Word<Kind>] {
+        &[Word(Kind::Ram), Word(Kind::Rom), Word(Kind::Reg)]
     }
 
     fn word(self) -> &'static [u8] {
-        match self.kind {
+        match self.0 {
             Kind::Ram => b"ram",
             Kind::Rom => b"rom",
             Kind::Reg => b"reg",
@@ -56,22 +49,19 @@ impl Keyword for KindWord {
     }
 }
 
-// Whether writes are let through, as a word.
-#[derive(Clone, Copy)]
-pub(crate) struct WritesWord {
-    pub(crate) writes: bool,
-}
+// Whether writes are let through.
+impl Keyword for Word<bool> {
+    ghost word = { spelt writes_text };
 
-impl Keyword for WritesWord {
-    ghost word = { writes_text };
+    ghost all = { words verdicts };
 
-    ghost all = { verdicts };
+    ghost lawful = { writes_set };
 
-    fn all() -> &'static [WritesWord] {
-        &[WritesWord { writes: true }, WritesWord { writes: false }]
+    fn all() -> &'static [Word<bool>] {
+        &[Word(true), Word(false)]
     }
 
     fn word(self) -> &'static [u8] {
-        if self.writes { b"yes" } else { b"no" }
+        if self.0 { b"yes" } else { b"no" }
     }
 }

@@ -2,7 +2,6 @@
 ghost use Rattle.std.specs.Prelude.{Decides};
 ghost use Rattle.changes.specs.Lines.{Writable};
 
-use crate::parts::range_of;
 use interval::stretches::TOP;
 use model::changes::Change;
 use model::kinds::Kind;
@@ -14,7 +13,7 @@ pub(crate) const LAST_LEAF: u8 = 0x3f;
 pub fn is_writable(change: &Change) -> bool
     ensures { Decides result (Writable change.now) }
 {
-    let range = range_of(change);
+    let range = change.range();
     let place = range.label;
     range.length > 0
         && range.start <= TOP

@@ -4,8 +4,7 @@ ghost use Rattle.lexis.specs.Shown.{shown};
 ghost use Rattle.changes.specs.Lines.{line as written_line};
 ghost use Rattle.changes.specs.Calls.{Fits, Written};
 
-use crate::parts::{range_of, sign_of};
-use crate::words::{KindWord, WritesWord};
+use crate::words::Word;
 use crate::writable::is_writable;
 use lexis::keyword::Keyword;
 use lexis::line::Line;
@@ -15,23 +14,22 @@ use model::changes::Change;
 pub fn line_of(change: &Change) -> Line
     ensures { shown result ≡ written_line change.now }
 {
-    let range = range_of(change);
+    let range = change.range();
     let place = range.label;
-    let kind = KindWord { kind: place.kind };
-    let writes = WritesWord {
-        writes: place.writes,
-    };
+    let action = Word(change.action());
+    let kind = Word(place.kind);
+    let writes = Word(place.writes);
     let mut line = Line::new();
     line.put(b"(");
-    line.put(sign_of(change).word());
+    line.put(action.word());
     line.put(b" (at ");
     line.hex(range.start);
     line.put(b") (length ");
     line.hex(range.length);
     line.put(b") (leaf ");
-    line.hex(place.leaf as u64);
+    line.hex(u64::from(place.leaf));
     line.put(b" (device ");
-    line.hex(place.device as u64);
+    line.hex(u64::from(place.device));
     line.put(b") (offset ");
     line.hex(place.offset);
     line.put(b")) (kind ");

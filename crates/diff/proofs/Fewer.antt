@@ -7,9 +7,10 @@ use Rattle.std.proofs.ByRecursion.{All-append, All-weaker}
 use Rattle.std.proofs.lemmas.Bool.{both_ways, or_left, or_right, cond-true, cond-false, cond_both, not-true, not_from_true, not_from_false, cases_Bool}
 use Rattle.model.specs.declared.changes.Change.{Change}
 use Rattle.model.specs.declared.changes.Change.TheVariants.{Removal, Addition}
+use Rattle.model.specs.Changes.{range_of}
 use Rattle.model.specs.Ranges.{Range, same_range, listed}
 use Rattle.diff.specs.ChangeLists.{missing, changes}
-use Rattle.diff.specs.Laws.{range_of, Fewest}
+use Rattle.diff.specs.Laws.{Fewest}
 use Rattle.diff.specs.Sets.{Set, altered, all_altered, Turns}
 use Rattle.diff.proofs.Members.{same_decides, same_refl, cases_same, listed_missing, Distinct, distinct_kept, or_skip}
 

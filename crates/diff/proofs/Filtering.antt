@@ -3,9 +3,9 @@ use Rattle.std.proofs.Common.{◌≡◌, Bool, true, not, List, [], ◌∷◌, �
 use Rattle.std.proofs.lemmas.List.Elements.{filter-append}
 use Rattle.std.proofs.lemmas.Bool.{cond-true, cond-false, cond_both, cases_Bool}
 use Rattle.model.specs.declared.changes.Change.TheVariants.{Removal, Addition}
+use Rattle.model.specs.Changes.{range_of}
 use Rattle.model.specs.Ranges.{Range, listed}
 use Rattle.diff.specs.ChangeLists.{missing, changes}
-use Rattle.diff.specs.Laws.{range_of}
 use Rattle.diff.proofs.Members.{and_true, listed_kept}
 
 pub kept_map : {X Y : Type 0} (f : X → Y) (q : Y → Bool) (xs : List X) → filter q (map f xs) ≡ map f (filter (λ x. q (f x)) xs)

@@ -5,3 +5,4 @@ pub mod Members
 pub mod Promises
 pub mod Rooms
 pub mod Walking
+pub mod Writing

@@ -5,6 +5,7 @@ use Rattle.interval.specs.Stretches.{rising}
 use Rattle.model.specs.declared.changes.Change.{Change}
 use Rattle.model.specs.declared.changes.Change.TheVariants.{Removal, Addition}
 use Rattle.model.specs.declared.kinds.Kind.{Kind}
+use Rattle.model.specs.Changes.{range_of}
 use Rattle.model.specs.Ranges.{Range}
 use Rattle.replay.specs.CarryOut.{carried, carry_from}
 use Rattle.diff.specs.declared.counts.Counts.{Counts}
@@ -81,10 +82,6 @@ pub record Fewest (old new : List Range) (cs : List Change) : Type 0 where
   pub fewest : (others : List Change) → Turns others old new → length cs ≤ length others
 
 -- Kinds.
-
-abbrev pub range_of : Change → Range
-range_of (Removal r) = r
-range_of (Addition r) = r
 
 -- the ranges of some kinds, and the entries of some kinds
 abbrev pub of_kinds : (Kind → Bool) → List Range → List Range

@@ -1,4 +1,3 @@
-pub mod Actions
 pub mod ChangeLists
 pub mod Laws
 pub mod Merge

@@ -3,31 +3,32 @@ ghost use Rattle.std.specs.Prelude.{◌≡◌, ◌≤◌, ◌++◌, length, drop
 ghost use Rattle.diff.specs.ChangeLists.{ranges, changes, counts as counts_of, list_answer, list_after};
 ghost use Rattle.diff.specs.Laws.{entries, Replays, Succeeds, RunsReplay, OneRule, Counted, Fewest, ToldByKind};
 
-use crate::actions::Action;
 use crate::counts::Counts;
-use crate::merge::{count_missing, write_missing};
+use crate::merge::{Missing, write_missing};
 use interval::ordered::Ordered;
-use model::changes::Change;
+use model::changes::{Action, Change};
 use model::faults::Fault;
 use model::places::Place;
 
-// Counts the entries of the list.
+// Counts the entries of the list. The two maps are asked in either order, so no type holds both.
 fn count_changes(old: &Ordered<Place>, new: &Ordered<Place>) -> Counts
     ensures { result ≡ counts_of (ranges old.now) (ranges new.now) }
 {
     Counts {
-        removed: count_missing(old.live, new.live),
-        added: count_missing(new.live, old.live),
+        removed: Missing::between(old, new).count(),
+        added: Missing::between(new, old).count(),
     }
 }
 
 // Writes the entries, for which there is room.
-fn write_changes(old: &Ordered<Place>, new: &Ordered<Place>, list: &mut [Change])
-    requires { length (changes (ranges old.now) (ranges new.now)) ≤ length list.old }
+fn write_changes(old: &Ordered<Place>, new: &Ordered<Place>, counts: Counts, list: &mut [Change])
+    requires counts { counts ≡ counts_of (ranges old.now) (ranges new.now) }
+    requires room { length (changes (ranges old.now) (ranges new.now)) ≤ length list.old }
     ensures { list.new ≡ changes (ranges old.now) (ranges new.now) ++ drop (length (changes (ranges old.now) (ranges new.now))) list.old }
 {
-    let end = write_missing(Action::Remove, old.live, new.live, list, 0);
-    write_missing(Action::Add, new.live, old.live, list, end);
+    let (removals, additions) = list.split_at_mut(counts.removed);
+    write_missing(Action::Removal, old, new, removals);
+    write_missing(Action::Addition, new, old, additions);
 }
 
 // Writes the removals of the old ranges that the new map lacks, then the additions of the new ones
@@ -51,6 +52,6 @@ pub fn change_list(
     if !counts.fit(list.len()) {
         return Err(Fault::ListShort);
     }
-    write_changes(old, new, list);
+    write_changes(old, new, counts, list);
     Ok(counts)
 }

@@ -1,74 +1,87 @@
 // One walk along two maps that rise by start.
-ghost use Rattle.std.specs.Prelude.{◌≡◌, ◌+◌, ◌≤◌, true, ◌++◌, map, length, take, drop};
-ghost use Rattle.interval.specs.Stretches.{rising};
+ghost use Rattle.std.specs.Prelude.{◌≡◌, ◌++◌, ◌≤◌, map, length, drop};
+ghost use Rattle.std.specs.Iterator.{YieldsFirst, item_count};
 ghost use Rattle.interval.specs.Edits.{started};
-ghost use Rattle.diff.specs.Actions.{entry as entry_of};
-ghost use Rattle.diff.specs.ChangeLists.{missing};
-ghost use Rattle.diff.specs.Merge.{begins};
+ghost use Rattle.model.specs.Changes.{entry as entry_of};
+ghost use Rattle.diff.specs.ChangeLists.{ranges, missing};
+ghost use Rattle.diff.specs.Merge.{begins, left_over};
 
-use crate::actions::Action;
-use interval::stretches::is_same;
-use model::changes::Change;
+use interval::ordered::Ordered;
+use model::changes::{Action, Change};
+use model::places::Place;
 use model::ranges::Range;
 
-// The first record from `from` on whose range does not start below the address.
-fn first_from(ranges: &[Range], from: usize, address: u64) -> usize
-    ensures { result ≡ from + started address (drop from ranges.now) }
-{
-    let mut at = from;
-    while at < ranges.len() && ranges[at].start < address {
-        at += 1;
-    }
-    at
+// The ranges of one map that another lacks, rising. What the walk has passed is in neither view.
+#[derive(Drop)]
+pub(crate) struct Missing<'a> {
+    left: Ordered<'a, Place>,
+    others: Ordered<'a, Place>,
 }
 
-// Whether the record `at` is the range.
-fn stands_at(ranges: &[Range], at: usize, range: &Range) -> bool
-    ensures { result ≡ begins (drop at ranges.now) range.now }
-{
-    at < ranges.len() && is_same(&ranges[at], range)
-}
-
-// How many ranges of `xs` are not among `ys`.
-pub(crate) fn count_missing(xs: &[Range], ys: &[Range]) -> usize
-    requires rise { rising 0 xs.now ≡ true }
-    requires beside { rising 0 ys.now ≡ true }
-    ensures { result ≡ length (missing xs.now ys.now) }
-{
-    let mut count = 0;
-    let mut at = 0;
-    for x in xs {
-        at = first_from(ys, at, x.start);
-        if !stands_at(ys, at, x) {
-            count += 1;
+impl<'a> Missing<'a> {
+    pub(crate) fn between(xs: &Ordered<'a, Place>, ys: &Ordered<'a, Place>) -> Missing<'a>
+        ensures gives { left_over result ≡ missing (ranges xs.now) (ranges ys.now) }
+        ensures fits { length (left_over result) ≤ usize.MAX }
+    {
+        Missing {
+            left: Ordered { live: xs.live },
+            others: Ordered { live: ys.live },
         }
     }
-    count
 }
 
-// Writes an entry for each range of `xs` that is not among `ys`, from the record `from` of the list
-// on, and answers where the entries end.
+// The ranges from the first on that does not start below the address.
+fn from_start(ranges: &[Range], address: u64) -> &[Range]
+    ensures { result.now ≡ drop (started address ranges.now) ranges.now }
+{
+    let below = ranges
+        .iter()
+        .take_while(|range| range.start < address)
+        .count();
+    &ranges[below..]
+}
+
+// Whether the first of the ranges is this one.
+fn begin_with(ranges: &[Range], range: &Range) -> bool
+    ensures { result ≡ begins ranges.now range.now }
+{
+    ranges.first() == Some(range)
+}
+
+impl<'a> Iterator for Missing<'a> {
+    type Item = Range;
+
+    ghost next_gives = { YieldsFirst left_over };
+
+    ghost remaining = { item_count left_over };
+
+    fn next(&mut self) -> Option<Range> {
+        while let Some((range, after)) = self.left.live.split_first() {
+            self.left = Ordered { live: after };
+            self.others = Ordered {
+                live: from_start(self.others.live, range.start),
+            };
+            if !begin_with(self.others.live, range) {
+                return Some(*range);
+            }
+        }
+        None
+    }
+}
+
+// Writes an entry for each range of `xs` that is not among `ys` into the list, which has room for
+// them.
 pub(crate) fn write_missing(
     action: Action,
-    xs: &[Range],
-    ys: &[Range],
+    xs: &Ordered<Place>,
+    ys: &Ordered<Place>,
     list: &mut [Change],
-    from: usize,
-) -> usize
-    requires rise { rising 0 xs.now ≡ true }
-    requires beside { rising 0 ys.now ≡ true }
-    requires room { from + length (missing xs.now ys.now) ≤ length list.old }
-    ensures end { result ≡ from + length (missing xs.now ys.now) }
-    ensures after { list.new ≡ take from list.old ++ map (entry_of action) (missing xs.now ys.now) ++ drop result list.old }
+)
+    requires { length (missing (ranges xs.now) (ranges ys.now)) ≤ length list.old }
+    ensures { list.new ≡ map (entry_of action) (missing (ranges xs.now) (ranges ys.now)) ++ drop (length (missing (ranges xs.now) (ranges ys.now))) list.old }
 {
-    let mut end = from;
-    let mut at = 0;
-    for x in xs {
-        at = first_from(ys, at, x.start);
-        if !stands_at(ys, at, x) {
-            list[end] = action.entry(*x);
-            end += 1;
-        }
+    // By index, since a proof loses what a loop writes through `iter_mut` beside another iterator.
+    for (i, range) in Missing::between(xs, ys).enumerate() {
+        list[i] = action.entry(range);
     }
-    end
 }

@@ -6,7 +6,7 @@ mod tests {
     use diff::change_lists::change_list;
     use diff::counts::Counts;
     use interval::ordered::Ordered;
-    use interval::stretches::{Stretch, is_ready};
+    use interval::stretches::Stretch;
     use model::changes::Change;
     use model::faults::Fault;
     use model::kinds::Kind;
@@ -30,13 +30,9 @@ mod tests {
 
     // The change list between two maps, unless one is out of order.
     fn between(old: &[Range], new: &[Range], list: &mut [Change]) -> Option<Result<Counts, Fault>> {
-        if !is_ready(old, old.len()) {
-            return None;
-        }
-        if !is_ready(new, new.len()) {
-            return None;
-        }
-        Some(change_list(&Ordered { live: old }, &Ordered { live: new }, list))
+        let old = Ordered::check(old, old.len()).ok()?;
+        let new = Ordered::check(new, new.len()).ok()?;
+        Some(change_list(&old, &new, list))
     }
 
     fn counts(removed: usize, added: usize) -> Option<Result<Counts, Fault>> {

@@ -1,13 +1,24 @@
 -- The bounds of the numbers in a tree, entry by entry.
-use Rattle.std.proofs.Common.{◌≡◌, ℕ, ◌^◌, ◌<◌, true, ltb, leb, List, [], ◌∷◌, length, get_or, None, Option, refl, ap, ⊎_elim, arith}
+use Rattle.std.proofs.Common.{◌≡◌, ℕ, ◌^◌, ◌<◌, true, ltb, leb, List, [], ◌∷◌, length, get_or, None, Option, refl, ap, ⊎_elim}
 use Rattle.std.specs.List.{AllByRecursion}
 use Rattle.std.proofs.ByRecursion.{All-get_or}
 use Rattle.std.proofs.lemmas.List.{get_or_past}
 use Rattle.std.proofs.lemmas.Bool.{and_parts, and_from, cases_lt, leb-true, ltb-true, le-leb, lt-ltb}
 use Rattle.tree.specs.declared.regions.Region.{Region}
 use Rattle.tree.specs.declared.regions.Attachment.{Attachment}
+use Rattle.tree.specs.declared.table.Table.{Table}
+use Rattle.tree.specs.Model.{Model, model_of}
 use Rattle.edits.specs.Limits.{Low}
 use Rattle.tree.specs.Bounds.{bounded_region, bounded_regions, bounded_attachments}
+
+-- all numbers of a tree are within their bounds
+pub record Bounded (t : Model) : Type 0 where
+  pub numbered : length t.regions ≡ 64
+  pub sizes : bounded_regions t.regions ≡ true
+  pub offsets : bounded_attachments t.attachments ≡ true
+
+pub bounded_table : (t : Table) → Bounded (model_of t)
+bounded_table t = record { numbered = t.numbered; sizes = t.sizes; offsets = t.offsets }
 
 pub low_from : (cs : List Attachment) → bounded_attachments cs ≡ true → AllByRecursion Low cs
 low_from [] e = tt
@@ -22,16 +33,6 @@ pub from_low : (cs : List Attachment) → AllByRecursion Low cs → bounded_atta
 from_low [] h = refl
 from_low (c ∷ cs) h =
     and_from _ _ (le-leb _ _ h.0.some) (and_from _ _ (lt-ltb _ _ h.0.child) (and_from _ _ (lt-ltb _ _ h.0.parent) (and_from _ _ (le-leb _ _ h.0.offset) (from_low cs h.1))))
-
-low_at : (cs : List Attachment) (i : ℕ) (d : Attachment) → bounded_attachments cs ≡ true → i < length cs → Low (get_or cs i d)
-low_at cs i d e lt = All-get_or Low cs i d lt (low_from cs e)
-
--- an entry's numbers are below the length of a list that has an element for each region
-pub child_in : (cs : List Attachment) (i n : ℕ) (d : Attachment) → bounded_attachments cs ≡ true → i < length cs → n ≡ 64 → (get_or cs i d).child < n
-child_in cs i n d e lt is = let low = (low_at cs i d e lt).child in omega arith
-
-pub parent_in : (cs : List Attachment) (i n : ℕ) (d : Attachment) → bounded_attachments cs ≡ true → i < length cs → n ≡ 64 → (get_or cs i d).parent < n
-parent_in cs i n d e lt is = let low = (low_at cs i d e lt).parent in omega arith
 
 abbrev pub Fine : Option Region → Type 0
 Fine g = bounded_region g ≡ true

@@ -1,5 +1,5 @@
 -- The promises of an edit, from its rows.
-use Rattle.std.proofs.Common.{◌≡◌, ℕ, ◌<◌, Bool, true, false, cond, not, eqb, List, [], ◌∷◌, ◌++◌, take, ℤ, ◌≤ℤ◌, ◌<ℤ◌, is_some, Some, None, Ok, Err, Option, Result, sym, refl, ap, ◌∙◌, subst, arith, lit<}
+use Rattle.std.proofs.Common.{◌≡◌, ℕ, ◌<◌, Bool, true, false, cond, not, eqb, List, [], ◌∷◌, ◌++◌, ℤ, ◌≤ℤ◌, ◌<ℤ◌, is_some, Some, None, Ok, Err, Option, Result, sym, refl, ap, ◌∙◌, subst, arith, lit<}
 use lib.Signed.{lt_z}
 use Rattle.std.specs.List.{AllByRecursion}
 use Rattle.std.proofs.ByRecursion.{All-weaker}
@@ -11,18 +11,19 @@ use Rattle.model.specs.declared.faults.Fault.{Fault}
 use Rattle.model.specs.declared.faults.Fault.TheVariants.{Cycle, TooDeep}
 use Rattle.tree.specs.declared.regions.Attachment.{Attachment}
 use Rattle.tree.specs.Model.{Model}
-use Rattle.tree.specs.Order.{has_child, inserted, sorted}
+use Rattle.tree.specs.Order.{attachment_of, has_child, inserted, sorted, without_child}
 use Rattle.tree.specs.Paths.{ComesBack, TooLong, Lawful}
 use Rattle.edits.specs.declared.edit.Edit.{Edit}
 use Rattle.edits.specs.declared.edit.Edit.TheVariants.{Container, Leaf, Alias, Attach, Detach, Move, Switch, Protect, Remove}
 use Rattle.edits.specs.declared.edit.Backing.{Backing}
-use Rattle.edits.specs.Checks.{path_rows}
-use Rattle.edits.specs.Edited.{attachment_of, without_child, again_at, edited}
+use Rattle.edits.specs.Edited.{again_at, edited}
 use Rattle.edits.specs.Limits.{Low}
 use Rattle.edits.specs.PathTests.{comes_back, too_long, Decided}
 use Rattle.edits.specs.Promises.{PathsTold, LeadsEquals, Moved, Reordered}
-use Rattle.edits.specs.Rows.{Row, first_applying, edit_rows, told}
-use Rattle.edits.proofs.Orders.{Well, Its, its, attached_some, behind_all, sorted_behind, sorted_rest, sorted_kept}
+use Rattle.model.specs.Rows.{Row, first_applying, told}
+use Rattle.edits.specs.Rows.{alias_rows, attach_rows, path_rows, edit_rows}
+use Rattle.tree.proofs.Orders.{attached_some, behind_all, sorted_behind, sorted_rest, sorted_kept}
+use Rattle.edits.proofs.Orders.{Well, Its, its}
 use Rattle.edits.proofs.Sound.{Sound, Passed, passes, stopped, passed_then, sound_edit, decided_alias, decided_attach}
 use Rattle.edits.proofs.Walks.{short_lawful}
 
@@ -101,8 +102,8 @@ law b t e h ok = short_lawful (edited b t e) (sound_edit b t e ok h).short
 says : (b : Backing) (t : Model) (e : Edit) → Sound t → Says (edited b t e) (first_applying (edit_rows b t e))
 says b t (Container n s) h = early_says _ (edit_rows b t (Container n s)) (lit< tt, (lit< tt, (lit< tt, tt))) (law b t (Container n s) h)
 says b t (Leaf n s d) h = early_says _ (edit_rows b t (Leaf n s d)) (lit< tt, (lit< tt, (lit< tt, (lit< tt, tt)))) (law b t (Leaf n s d) h)
-says b t (Alias n s r f) h = then_says _ (take 5 (edit_rows b t (Alias n s r f))) (lit< tt, (lit< tt, (lit< tt, (lit< tt, (lit< tt, tt))))) (decided_alias b t n s r f h)
-says b t (Attach n p o i) h = then_says _ (take 6 (edit_rows b t (Attach n p o i))) (lit< tt, (lit< tt, (lit< tt, (lit< tt, (lit< tt, (lit< tt, tt)))))) (decided_attach b t n p o i h)
+says b t (Alias n s r f) h = then_says _ (alias_rows t n s r f) (lit< tt, (lit< tt, (lit< tt, (lit< tt, (lit< tt, tt))))) (decided_alias b t n s r f h)
+says b t (Attach n p o i) h = then_says _ (attach_rows t n p o) (lit< tt, (lit< tt, (lit< tt, (lit< tt, (lit< tt, (lit< tt, tt)))))) (decided_attach b t n p o i h)
 says b t (Detach n) h = early_says _ (edit_rows b t (Detach n)) (lit< tt, (lit< tt, (lit< tt, tt))) (law b t (Detach n) h)
 says b t (Move n o) h = early_says _ (edit_rows b t (Move n o)) (lit< tt, (lit< tt, (lit< tt, (lit< tt, tt)))) (law b t (Move n o) h)
 says b t (Switch n v) h = early_says _ (edit_rows b t (Switch n v)) (lit< tt, (lit< tt, tt)) (law b t (Switch n v) h)

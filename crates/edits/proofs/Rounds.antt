@@ -1,9 +1,11 @@
 -- Rounds over the edges of a tree, which mark regions.
-use Rattle.std.proofs.Common.{◌≡◌, ℕ, ◌+◌, ◌^◌, ◌<◌, ◌≤◌, Bool, true, false, cond, ◌&&◌, ◌||◌, eqb, ltb, leb, List, [], ◌∷◌, ◌++◌, map, length, get_or, take, set, replicate, Some, None, Decides, Option, sym, refl, ap, ◌∙◌, subst, ⊎_elim, add-one, arith}
-use Rattle.std.specs.List.{ContainsAt as Has, AllByRecursion}
+use Rattle.std.proofs.Common.{◌≡◌, ℕ, zero, suc, ◌+◌, ◌^◌, ◌<◌, ◌≤◌, Bool, true, false, cond, ◌&&◌, ◌||◌, eqb, ltb, leb, List, [], ◌∷◌, ◌++◌, map, length, get_or, take, Some, None, Decides, Option, sym, refl, ap, ◌∙◌, subst, ⊎_elim, add-one, arith}
+use Rattle.std.specs.List.{ContainsAt as Has, AllByRecursion, list_any}
 use Rattle.std.proofs.ByRecursion.{All-append}
-use Rattle.std.proofs.lemmas.List.{take_more, get_or-set_same, get_or-set_other, get_or_past, get_or-replicate, get_or_default, length-set}
-use Rattle.std.proofs.lemmas.Bool.{and_parts, and_right, cases_eq, cases_lt, cond_both, eq-eqb, ne_eqb, lt-ltb, ltb-true}
+use Rattle.std.proofs.Math.Bool.{and_comm, or_assoc, or_comm, or-false}
+use Rattle.std.proofs.lemmas.List.Folds.{list_any-append}
+use Rattle.std.proofs.lemmas.List.{get_or_default, get_or_past, take_more}
+use Rattle.std.proofs.lemmas.Bool.{and_parts, cases_Bool, cases_lt, cond_both, ltb-true}
 use Rattle.std.proofs.lemmas.Bool.Decides.{same_from_decides, Decides-like, Decides-below_or}
 use Rattle.tree.specs.declared.regions.Body.{Body}
 use Rattle.tree.specs.declared.regions.Body.TheVariants.{Container, Leaf, Alias}
@@ -11,79 +13,54 @@ use Rattle.tree.specs.declared.regions.Region.{Region}
 use Rattle.tree.specs.declared.regions.Attachment.{Attachment}
 use Rattle.tree.specs.Bounds.{bounded_body}
 use Rattle.tree.specs.Model.{Model, under, region_at}
-use Rattle.edits.specs.Limits.{Bounded, Low}
-use Rattle.edits.specs.Marks.{Marks, marked_at, children}
-use Rattle.edits.specs.PathTests.{any, onward, targets, targets_of, below, goes_on, leads_to}
-use Rattle.edits.proofs.Limits.{low_from, Fine, fine_from, fine_anywhere}
+use Rattle.edits.specs.Limits.{Low}
+use Rattle.edits.specs.declared.marks.Marks.{Marks}
+use Rattle.edits.specs.Marks.{IsSetOf, has, children}
+use Rattle.edits.specs.PathTests.{onward, targets, targets_of, below, goes_on, leads_to, reaches}
+use Rattle.edits.proofs.Walks.{numbered, leads_low}
+use Rattle.edits.proofs.Limits.{Bounded, low_from, Fine, fine_from, fine_anywhere}
 
-or_assoc : (x y z : Bool) → ((x || y) || z) ≡ (x || (y || z))
-or_assoc true y z = refl
-or_assoc false y z = refl
-
-or_false : (x : Bool) → (x || false) ≡ x
-or_false true = refl
-or_false false = refl
-
-any_append : (p : ℕ → Bool) (xs ys : List ℕ) → any p (xs ++ ys) ≡ (any p xs || any p ys)
-any_append p [] ys = refl
-any_append p (x ∷ xs) ys = ap (λ b. p x || b) (any_append p xs ys) ∙ sym (or_assoc (p x) (any p xs) (any p ys))
-
-children_more : (p : ℕ → Bool) (k : ℕ) (cs : List Attachment) (c : Attachment) → any p (children k (cs ++ c ∷ [])) ≡ (any p (children k cs) || (eqb c.parent k && p c.child))
+children_more : (p : ℕ → Bool) (k : ℕ) (cs : List Attachment) (c : Attachment) → list_any p (children k (cs ++ c ∷ [])) ≡ (list_any p (children k cs) || (eqb c.parent k && p c.child))
 children_more p k [] c = at (eqb c.parent k)
   where
-    at : (b : Bool) → any p (map (λ c. c.child) (cond b (c ∷ []) [])) ≡ (b && p c.child)
-    at true = or_false (p c.child)
+    at : (b : Bool) → list_any p (map (λ c. c.child) (cond b (c ∷ []) [])) ≡ (b && p c.child)
+    at true = or-false (p c.child)
     at false = refl
 children_more p k (d ∷ cs) c = at (eqb d.parent k) (children_more p k cs c)
   where
-    at : (b : Bool) → any p (children k (cs ++ c ∷ [])) ≡ (any p (children k cs) || (eqb c.parent k && p c.child)) →
-        any p (map (λ c. c.child) (cond b (d ∷ under k (cs ++ c ∷ [])) (under k (cs ++ c ∷ [])))) ≡ (any p (map (λ c. c.child) (cond b (d ∷ under k cs) (under k cs))) || (eqb c.parent k && p c.child))
+    at : (b : Bool) → list_any p (children k (cs ++ c ∷ [])) ≡ (list_any p (children k cs) || (eqb c.parent k && p c.child)) →
+        list_any p (map (λ c. c.child) (cond b (d ∷ under k (cs ++ c ∷ [])) (under k (cs ++ c ∷ [])))) ≡ (list_any p (map (λ c. c.child) (cond b (d ∷ under k cs) (under k cs))) || (eqb c.parent k && p c.child))
     at true e = ap (λ b. p d.child || b) e ∙ sym (or_assoc (p d.child) _ _)
     at false e = e
 
--- one more attachment of a round
-pub parent_marked : (p : ℕ → Bool) (cs : List Attachment) (i : ℕ) (d : Attachment) (was now : List Bool) → i < length cs → (get_or cs i d).parent < length now →
-    ((k : ℕ) → marked_at now k ≡ (marked_at was k || any p (children k (take i cs)))) →
-    (k : ℕ) → marked_at (set now (get_or cs i d).parent (marked_at now (get_or cs i d).parent || p (get_or cs i d).child)) k ≡ (marked_at was k || any p (children k (take (i + 1) cs)))
-parent_marked p cs i d was now lt low inv k =
+-- one more attachment of a round, whose child is marked or not
+pub parent_added : (p : ℕ → Bool) (cs : List Attachment) (i : ℕ) (d : Attachment) (was now later : Marks) (b : Bool) → i < length cs →
+    ((k : ℕ) → k < 64 → has now k ≡ (has was k || list_any p (children k (take i cs)))) →
+    b ≡ p (get_or cs i d).child →
+    ((k : ℕ) → k < 64 → has later k ≡ ((b && eqb (get_or cs i d).parent k) || has now k)) →
+    (k : ℕ) → k < 64 → has later k ≡ (has was k || list_any p (children k (take (i + 1) cs)))
+parent_added p cs i d was now later b lt inv child step k low =
     let c = get_or cs i d in
-    let after : any p (children k (take (i + 1) cs)) ≡ (any p (children k (take i cs)) || (eqb c.parent k && p c.child)) = ap (λ l. any p (children k l)) (take_more cs i d lt) ∙ children_more p k (take i cs) c in
-    let here : (marked_at was k || any p (children k (take (i + 1) cs))) ≡ (marked_at now k || (eqb c.parent k && p c.child)) =
-    ap (λ b. marked_at was k || b) after ∙ sym (or_assoc (marked_at was k) (any p (children k (take i cs))) (eqb c.parent k && p c.child)) ∙ ap (λ b. b || (eqb c.parent k && p c.child)) (sym (inv k)) in
-    ⊎_elim
-    (λ e. ap (λ n. get_or (set now c.parent (marked_at now c.parent || p c.child)) n false) (sym e)
-    ∙ get_or-set_same now c.parent _ false low
-    ∙ ap (λ n. marked_at now n || p c.child) e
-    ∙ ap (λ b. marked_at now k || (b && p c.child)) (sym (eq-eqb _ _ e))
-    ∙ sym here)
-    (λ ne. get_or-set_other now c.parent k _ false (λ e. ne (sym e))
-    ∙ sym (or_false (marked_at now k))
-    ∙ ap (λ b. marked_at now k || (b && p c.child)) (sym (ne_eqb _ _ ne))
-    ∙ sym here)
-    (cases_eq c.parent k)
-
--- a round over all aliases
-pub aliases_marked : (p : ℕ → Bool) (gs : List (Option Region)) (i : ℕ) (was now : List Bool) → length gs ≤ i →
-    ((k : ℕ) → marked_at now k ≡ (marked_at was k || (ltb k i && any p (targets_of (get_or gs k None))))) →
-    (k : ℕ) → marked_at now k ≡ (marked_at was k || any p (targets_of (get_or gs k None)))
-aliases_marked p gs i was now le inv k = inv k ∙ ap (λ b. marked_at was k || b) (⊎_elim
-    (λ lt. ap (λ b. b && any p (targets_of (get_or gs k None))) (lt-ltb k i (omega arith)))
-    (λ past. let none = ap (λ o. any p (targets_of o)) (get_or_past gs k None past) in ap (λ b. ltb k i && b) none ∙ and_right (ltb k i) false refl ∙ sym none)
-    (cases_lt k (length gs)))
+    let after : list_any p (children k (take (i + 1) cs)) ≡ (list_any p (children k (take i cs)) || (eqb c.parent k && p c.child)) =
+    ap (λ l. list_any p (children k l)) (take_more cs i d lt) ∙ children_more p k (take i cs) c in
+    step k low
+    ∙ or_comm (b && eqb c.parent k) (has now k)
+    ∙ ap (λ x. has now k || x) (and_comm b (eqb c.parent k))
+    ∙ (λ j. inv k low j || (eqb c.parent k && child j))
+    ∙ or_assoc (has was k) (list_any p (children k (take i cs))) (eqb c.parent k && p c.child)
+    ∙ ap (λ x. has was k || x) (sym after)
 
 -- both rounds
-pub stepped : (p : ℕ → Bool) (t : Model) (mid last : List Bool) → length last ≡ 64 →
-    ((k : ℕ) → marked_at mid k ≡ (marked_at (replicate 64 false) k || any p (children k t.attachments))) →
-    ((k : ℕ) → marked_at last k ≡ (marked_at mid k || any p (targets_of (region_at t k)))) →
-    Marks (λ k. any p (onward t k)) last
-stepped p t mid last long children' aliases = record {
-  long = long;
-  each = λ k lt. aliases k
-      ∙ ap (λ b. b || any p (targets_of (region_at t k))) (children' k ∙ ap (λ b. b || any p (children k t.attachments)) (get_or-replicate 64 k false false lt))
-      ∙ sym (any_append p (children k t.attachments) (targets_of (region_at t k)));
-}
+pub stepped : (p : ℕ → Bool) (t : Model) (none mid later : Marks) → IsSetOf (λ _. false) none →
+    ((k : ℕ) → k < 64 → has mid k ≡ (has none k || list_any p (children k t.attachments))) →
+    ((k : ℕ) → has later k ≡ (has mid k || list_any p (targets_of (region_at t k)))) →
+    IsSetOf (λ k. list_any p (onward t k)) later
+stepped p t none mid later empty children' aliases k lt =
+    aliases k
+    ∙ ap (λ b. b || list_any p (targets_of (region_at t k))) (children' k lt ∙ ap (λ b. b || list_any p (children k t.attachments)) (empty k lt))
+    ∙ sym (list_any-append p (children k t.attachments) (targets_of (region_at t k)))
 
-any_same : (p q : ℕ → Bool) (xs : List ℕ) → AllByRecursion (λ x. x < 64) xs → ((x : ℕ) → x < 64 → p x ≡ q x) → any p xs ≡ any q xs
+any_same : (p q : ℕ → Bool) (xs : List ℕ) → AllByRecursion (λ x. x < 64) xs → ((x : ℕ) → x < 64 → p x ≡ q x) → list_any p xs ≡ list_any q xs
 any_same p q [] low same = refl
 any_same p q (x ∷ xs) low same = λ i. same x low.0 i || any_same p q xs low.1 same i
 
@@ -105,49 +82,76 @@ onward_low : (t : Model) (k : ℕ) → Bounded t → AllByRecursion (λ x. x < 6
 onward_low t k h =
     All-append (λ x. x < 64) (children k t.attachments) (targets_of (region_at t k)) (children_low k t.attachments (low_from t.attachments h.offsets)) (target_low (region_at t k) (fine_anywhere t.regions k (fine_from t.regions h.sizes)))
 
--- what the marks say of the regions that edges lead to
-pub marks_onward : (f : ℕ → Bool) (t : Model) (was now : List Bool) → Bounded t → Marks f was → Marks (λ k. any (marked_at was) (onward t k)) now → Marks (λ k. any f (onward t k)) now
-marks_onward f t was now h m n = record { long = n.long; each = λ k lt. n.each k lt ∙ any_same (marked_at was) f (onward t k) (onward_low t k h) m.each }
+-- one round more
+pub reach_more : (t : Model) (last always was mid now : Marks) (n : ℕ) → Bounded t → IsSetOf (reaches t (has last) (has always) n) was →
+    ((k : ℕ) → has mid k ≡ (has always k || has was k)) → IsSetOf (λ k. list_any (has mid) (onward t k)) now →
+    IsSetOf (reaches t (has last) (has always) (n + 1)) now
+unfolding reaches
+reach_more t last always was mid now n h inv joined step =
+    subst (λ i. IsSetOf (reaches t (has last) (has always) i) now) (sym (add-one n)) (λ k lt.
+    step k lt ∙ any_same _ _ (onward t k) (onward_low t k h) (λ x low. joined x ∙ ap (λ b. has always x || b) (inv x low)))
 
-pub goes_first : (t : Model) → Marks (goes_on t 0) (replicate 64 true)
-unfolding goes_on
-goes_first t = record { long = refl; each = λ k lt. get_or-replicate 64 k true false lt }
+pub reach_first : (t : Model) (last always : Marks) → IsSetOf (reaches t (has last) (has always) 0) last
+unfolding reaches
+reach_first t last always k lt = refl
 
-pub goes_more : (t : Model) (n : ℕ) (was now : List Bool) → Bounded t → Marks (goes_on t n) was → Marks (λ k. any (marked_at was) (onward t k)) now → Marks (goes_on t (n + 1)) now
-unfolding goes_on
-goes_more t n was now h m step = subst (λ i. Marks (goes_on t i) now) (sym (add-one n)) (marks_onward (goes_on t n) t was now h m step)
+-- what is reached depends on the two sets alone
+reach_same : (t : Model) (f g a b : ℕ → Bool) → Bounded t → ((k : ℕ) → k < 64 → f k ≡ g k) → ((k : ℕ) → k < 64 → a k ≡ b k) → (n k : ℕ) → k < 64 → reaches t f a n k ≡ reaches t g b n k
+unfolding reaches
+reach_same t f g a b h last always zero k lt = last k lt
+reach_same t f g a b h last always (suc n) k lt = any_same _ _ (onward t k) (onward_low t k h) (λ x low i. always x low i || reach_same t f g a b h last always n x low i)
 
-pub leads_first : (t : Model) (s : ℕ) → Marks (leads_to t 0 s) (replicate 64 false)
-unfolding leads_to
-leads_first t s = record { long = refl; each = λ k lt. get_or-replicate 64 k false false lt }
+goes_is : (t : Model) (n k : ℕ) → reaches t (λ _. true) (λ _. false) n k ≡ goes_on t n k
+unfolding reaches goes_on
+goes_is t zero k = refl
+goes_is t (suc n) k = λ i. list_any (λ q. goes_is t n q i) (onward t k)
 
-marks_set : (f : ℕ → Bool) (s : ℕ) (xs : List Bool) → Marks f xs → s < 64 → Marks (λ q. eqb q s || f q) (set xs s true)
-marks_set f s xs m low = record { long = length-set xs s true ∙ m.long; each = at }
-  where
-    at : (k : ℕ) → k < 64 → marked_at (set xs s true) k ≡ (eqb k s || f k)
-    at k lt = ⊎_elim
-        (λ e. let long = m.long in ap (λ n. get_or (set xs s true) n false) e ∙ get_or-set_same xs s true false (omega arith) ∙ ap (λ b. b || f k) (sym (eq-eqb _ _ e)))
-        (λ ne. get_or-set_other xs s k true false ne ∙ m.each k lt ∙ ap (λ b. b || f k) (sym (ne_eqb _ _ ne)))
-        (cases_eq k s)
+leads_is : (t : Model) (s n k : ℕ) → reaches t (λ _. false) (λ q. eqb q s) n k ≡ leads_to t n s k
+unfolding reaches leads_to
+leads_is t s zero k = refl
+leads_is t s (suc n) k = λ i. list_any (λ q. eqb q s || leads_is t s n q i) (onward t k)
 
-pub leads_more : (t : Model) (n s : ℕ) (was now : List Bool) → s < 64 → Bounded t → Marks (leads_to t n s) was → Marks (λ k. any (marked_at (set was s true)) (onward t k)) now → Marks (leads_to t (n + 1) s) now
-unfolding leads_to
-leads_more t n s was now low h m step = subst (λ i. Marks (leads_to t i s) now) (sym (add-one n)) (marks_onward (λ q. eqb q s || leads_to t n s q) t (set was s true) now h (marks_set (leads_to t n s) s was m low) step)
+pub goes_on_set : (t : Model) (all none m : Marks) (n : ℕ) → Bounded t → IsSetOf (λ _. true) all → IsSetOf (λ _. false) none → IsSetOf (reaches t (has all) (has none) n) m → IsSetOf (goes_on t n) m
+goes_on_set t all none m n h every empty is k lt = is k lt ∙ reach_same t _ _ _ _ h every empty n k lt ∙ goes_is t n k
+
+pub leads_to_set : (t : Model) (none only m : Marks) (s n : ℕ) → Bounded t → IsSetOf (λ _. false) none → IsSetOf (λ k. eqb k s) only → IsSetOf (reaches t (has none) (has only) n) m → IsSetOf (leads_to t n s) m
+leads_to_set t none only m s n h empty one is k lt = is k lt ∙ reach_same t _ _ _ _ h empty one n k lt ∙ leads_is t s n k
+
+-- the numbers of regions
+below_low : (n : ℕ) → n ≤ 64 → AllByRecursion (λ x. x < 64) (below n)
+below_low zero le = tt
+below_low (suc n) le = (omega arith, below_low n (omega arith))
+
+pub any_of_set : (f : ℕ → Bool) (m : Marks) → IsSetOf f m → list_any (has m) (below 64) ≡ list_any f (below 64)
+any_of_set f m is = any_same (has m) f (below 64) (below_low 64 (omega arith)) is
 
 -- a mark that is set
-pub any_marked : (f : ℕ → Bool) (xs : List Bool) (r : Bool) → Marks f xs → Decides r (Has xs true) → r ≡ any f (below 64)
-any_marked f xs r m d = same_from_decides r (any f (below 64)) d (Decides-like (any f (below 64)) to from (Decides-below_or f (λ k. f k ≡ true) (λ n. any f (below n)) (λ k. (λ e. e, λ e. e)) refl (λ _. refl) 64))
+pub any_marked : (m : Marks) (r : Bool) → Decides r (Has m.marked true) → r ≡ list_any (has m) (below 64)
+any_marked m r d = same_from_decides r (list_any f (below 64)) d (Decides-like (list_any f (below 64)) to from (Decides-below_or f (λ k. f k ≡ true) (λ n. list_any f (below n)) (λ k. (λ e. e, λ e. e)) refl (λ _. refl) 64))
   where
-    to : (k : ℕ) × (k < 64) × (f k ≡ true) → Has xs true
-    to h =
-        let long = m.long in
-        let lt = h.1 in
-        let in' : h.0 < length xs = omega arith in
-        (h.0, in', λ d. get_or_default xs h.0 d false in' ∙ m.each h.0 h.1 ∙ h.2)
+    f : ℕ → Bool
+    f = has m
 
-    from : Has xs true → (k : ℕ) × (k < 64) × (f k ≡ true)
+    to : (k : ℕ) × (k < 64) × (f k ≡ true) → Has m.marked true
+    to h =
+        let long = m.whole in
+        let lt = h.1 in
+        let in' : h.0 < length m.marked = omega arith in
+        (h.0, in', λ d. get_or_default m.marked h.0 d false in' ∙ h.2)
+
+    from : Has m.marked true → (k : ℕ) × (k < 64) × (f k ≡ true)
     from h =
-        let long = m.long in
+        let long = m.whole in
         let lt = h.1 in
         let in' : h.0 < 64 = omega arith in
-        (h.0, in', sym (m.each h.0 in') ∙ h.2 false)
+        (h.0, in', h.2 false)
+
+-- where no region is, no path begins
+pub leads_at : (t : Model) (s n : ℕ) (m : Marks) → Bounded t → IsSetOf (leads_to t n s) m → has m s ≡ leads_to t n s s
+leads_at t s n m h is = ⊎_elim (is s) (λ le. past le ∙ sym (none le)) (cases_lt s 64)
+  where
+    past : 64 ≤ s → has m s ≡ false
+    past le = get_or_past m.marked s false (let long = m.whole in omega arith)
+
+    none : 64 ≤ s → leads_to t n s s ≡ false
+    none le = ⊎_elim (λ e. absurd (let low = leads_low t n s s (numbered t h) e in omega arith)) (λ e. e) (cases_Bool (leads_to t n s s))

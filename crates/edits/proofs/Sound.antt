@@ -1,5 +1,5 @@
 -- An accepted edit keeps what is true of every tree.
-use Rattle.std.proofs.Common.{◌≡◌, ℕ, ◌^◌, ◌<◌, ◌≤◌, Bool, true, false, cond, not, eqb, ltb, ◌⊎◌, List, [], ◌∷◌, ◌++◌, length, get_or, take, ℤ, is_some, Some, None, Ok, Err, filter, Option, Result, sym, refl, ap, ◌∙◌, subst, inl, inr, ⊎_elim, arith}
+use Rattle.std.proofs.Common.{◌≡◌, ℕ, ◌^◌, ◌<◌, ◌≤◌, Bool, true, false, cond, not, eqb, ltb, ◌⊎◌, List, [], ◌∷◌, ◌++◌, length, get_or, ℤ, is_some, Some, None, Ok, Err, filter, Option, Result, sym, refl, ap, ◌∙◌, subst, inl, inr, ⊎_elim, arith}
 use lib.Signed.{lt_z}
 use Rattle.std.specs.List.{AllByRecursion}
 use Rattle.std.proofs.ByRecursion.{All-set}
@@ -14,19 +14,21 @@ use Rattle.tree.specs.declared.regions.Attachment.{Attachment}
 use Rattle.tree.specs.declared.table.Table.{Table}
 use Rattle.tree.specs.Bounds.{bounded_body}
 use Rattle.tree.specs.Model.{Model, region_at, fresh}
-use Rattle.tree.specs.Order.{has_child, inserted}
+use Rattle.tree.specs.Order.{attachment_of, has_child, inserted, without_child}
 use Rattle.tree.specs.Paths.{Holds, Edge, holds, shows}
 use Rattle.edits.specs.declared.edit.Edit.{Edit}
 use Rattle.edits.specs.declared.edit.Edit.TheVariants.{Container, Leaf, Alias, Attach, Detach, Move, Switch, Protect, Remove}
 use Rattle.edits.specs.declared.edit.Backing.{Backing}
-use Rattle.edits.specs.Checks.{checked, Changed, Tested, path_rows}
+use Rattle.edits.specs.Checks.{checked, Changed, Replaced, Tested}
 use Rattle.edits.specs.Edges.{Short, OneMore, OneNew}
-use Rattle.edits.specs.Edited.{with_region, with_order, switched, marked, attachment_of, without_child, again_at, edited}
-use Rattle.edits.specs.Limits.{Bounded, Low}
+use Rattle.edits.specs.Edited.{with_region, with_order, switched, marked, again_at, edited}
+use Rattle.edits.specs.Limits.{Low}
 use Rattle.edits.specs.PathTests.{targets, targets_of, too_long, Decided}
-use Rattle.edits.specs.Rows.{Row, first_applying, bad_size, bad_offset, no_number, no_region, defined, edit_rows}
-use Rattle.edits.proofs.Limits.{from_low, Fine, from_fine, fine_anywhere}
-use Rattle.edits.proofs.Orders.{Well, well_kept, well_inserted, well_again, its, has_without}
+use Rattle.model.specs.Rows.{Row, first_applying}
+use Rattle.edits.specs.Rows.{bad_size, no_number, no_region, defined, child_rows, alias_rows, attach_rows, path_rows, edit_rows}
+use Rattle.edits.proofs.Limits.{Bounded, from_low, Fine, from_fine, fine_anywhere}
+use Rattle.tree.proofs.Orders.{has_without}
+use Rattle.edits.proofs.Orders.{Well, well_kept, well_inserted, well_again, its}
 use Rattle.edits.proofs.Walks.{In, in_targets, numbered, long_decided, short_from, short_older, decided}
 
 -- Edges after a change of the order.
@@ -143,6 +145,10 @@ pub passed_then : (rs qs : List Row) → Passed rs → first_applying (rs ++ qs)
 passed_then [] qs h = refl
 passed_then (r ∷ rs) qs h = cond-false r.0 (Some r.1) (first_applying (rs ++ qs)) h.0 ∙ passed_then rs qs h.1
 
+first_passed : (rs qs : List Row) → Passed (rs ++ qs) → Passed rs
+first_passed [] qs h = tt
+first_passed (r ∷ rs) qs h = (h.0, first_passed rs qs h.1)
+
 pub all_passed : (rs : List Row) → Passed rs → first_applying rs ≡ None
 all_passed [] h = refl
 all_passed (r ∷ rs) h = cond-false r.0 (Some r.1) (first_applying rs) h.0 ∙ all_passed rs h.1
@@ -152,23 +158,25 @@ pub unrefused : {X : Type 0} (b : Bool) (f : Fault) (x y : X) → Ok y ≡ check
 unrefused true f x y e = absurd (let z : ◌≡◌ {A = ℕ} 0 1 = cc in omega arith)
 unrefused false f x y e = refl
 
-pub checked_is : {X : Type 0} (b : Bool) (f : Fault) (x y : X) → Ok y ≡ checked b f x → y ≡ x
-checked_is true f x y e = absurd (let z : ◌≡◌ {A = ℕ} 0 1 = cc in omega arith)
-checked_is false f x y e = cc
-
 pub refused : {X : Type 0} (b : Bool) (f e : Fault) (x : X) (later : Option Fault) → Err e ≡ checked b f x → cond b (Some f) later ≡ Some e
 refused true f e x later is = cc
 refused false f e x later is = absurd (let z : ◌≡◌ {A = ℕ} 0 1 = cc in omega arith)
 
+-- a region that is not the root and is changed
+pub replaced_changed : (b : Backing) (t : Model) (e : Edit) (n : ℕ) (R : Region → Region → Type 0) (r : Result Table Fault) → edit_rows b t e ≡ child_rows t n →
+    ((g h : Region) → region_at t n ≡ Some g → R g h → with_region t n (Some h) ≡ edited b t e) → Replaced t n R r → Changed b t e r
+replaced_changed b t e n R (Ok later) rows same h = (ap first_applying rows ∙ h.0, h.1.4 ∙ same h.1.0 h.1.1 h.1.2 h.1.3)
+replaced_changed b t e n R (Err f) rows same h = ap first_applying rows ∙ h
+
 -- the rows above those of paths, and then those
-pub tested_changed : (b : Backing) (t : Model) (e : Edit) (rs : List Row) (later : Model) (r : Result Table Fault) → edit_rows b t e ≡ rs ++ path_rows (edited b t e) → Passed rs → later ≡ edited b t e → Tested later r → Changed b t e r
+pub tested_changed : (b : Backing) (t : Model) (e : Edit) (rs : List Row) (later : Model) (r : Result Table Fault) → edit_rows b t e ≡ rs ++ path_rows (edited b t e) → first_applying rs ≡ None → later ≡ edited b t e → Tested later r → Changed b t e r
 tested_changed b t e rs later r is ok same tested = by_answer r tested
   where
     all : first_applying (edit_rows b t e) ≡ first_applying (path_rows later)
-    all = ap first_applying is ∙ passed_then rs (path_rows (edited b t e)) ok ∙ ap (λ m. first_applying (path_rows m)) (sym same)
+    all = ap first_applying is ∙ passed_then rs (path_rows (edited b t e)) (passes rs ok) ∙ ap (λ m. first_applying (path_rows m)) (sym same)
 
     by_answer : (r : Result Table Fault) → Tested later r → Changed b t e r
-    by_answer (Ok table) h = (all ∙ h.0, h.1 ∙ same, h.2)
+    by_answer (Ok table) h = (all ∙ h.0, h.1 ∙ same)
     by_answer (Err f) h = all ∙ h
 
 pub known : (t : Model) (n : ℕ) (g : Region) → n < 64 → region_at t n ≡ Some g → no_region t n ≡ false
@@ -250,22 +258,38 @@ grown_sound later t p q g e = record {
 
 -- Every edit.
 
-new_attachment : (t : Model) (n p o : ℕ) (i : ℤ) → bad_offset o ≡ false → no_region t n ≡ false → no_region t p ≡ false → eqb n 0 ≡ false → Low (record { child = n; parent = p; offset = o; priority = i })
-new_attachment t n p o i off known parent child = record {
-  some = let ne = eqb-false n 0 child in ⊎_elim (λ lt. absurd (ne (omega arith))) (λ le. le) (cases_lt n 1);
-  child = known_low t n known;
-  parent = known_low t p parent;
-  offset = ltb-false (2 ^ 40) o off;
+-- a new alias
+pub fine_alias : (t : Model) (n s r f : ℕ) → Passed (alias_rows t n s r f) → Fine (Some (fresh (body.Alias r f) s))
+fine_alias t n s r f ok = fine_new s (body.Alias r f) ok.0 (and_from _ _ (lt-ltb r 64 (known_low t r ok.1.1.1.0)) (le-leb f (2 ^ 40) (ltb-false (2 ^ 40) f ok.1.0)))
+
+grown_alias : (t : Model) (n s r f : ℕ) → Sound t → Passed (alias_rows t n s r f) → Grown (with_region t n (Some (fresh (body.Alias r f) s))) n r t
+grown_alias t n s r f h ok = alias_grows t h n s r f ok.1.1.1.1.0 ok.0 (known_low t r ok.1.1.1.0) (ltb-false (2 ^ 40) f ok.1.0)
+
+pub one_alias : (t : Model) (n s r f : ℕ) → Sound t → Passed (alias_rows t n s r f) → OneNew (with_region t n (Some (fresh (body.Alias r f) s))) n
+one_alias t n s r f h ok = grown_new _ t n r h.short (grown_alias t n s r f h ok)
+
+-- a new attachment
+pub low_attachment : (t : Model) (n p o : ℕ) (i : ℤ) → Passed (attach_rows t n p o) → Low (record { child = n; parent = p; offset = o; priority = i })
+low_attachment t n p o i ok = record {
+  some = let ne = eqb-false n 0 ok.1.1.1.0 in ⊎_elim (λ lt. absurd (ne (omega arith))) (λ le. le) (cases_lt n 1);
+  child = known_low t n ok.1.0;
+  parent = known_low t p ok.1.1.0;
+  offset = ltb-false (2 ^ 40) o ok.0;
 }
 
-pub decided_alias : (b : Backing) (t : Model) (n s r f : ℕ) → Sound t → Passed (take 5 (edit_rows b t (Alias n s r f))) → Decided (edited b t (Alias n s r f))
-unfolding edited
-decided_alias b t n s r f h ok = grown_decided _ t n r h.short (alias_grows t h n s r f ok.1.1.1.1.0 ok.0 (known_low t r ok.1.1.1.0) (ltb-false (2 ^ 40) f ok.1.0))
+grown_attachment : (t : Model) (n p o : ℕ) (i : ℤ) → Sound t → Passed (attach_rows t n p o) → Grown (with_order t (inserted (record { child = n; parent = p; offset = o; priority = i }) t.attachments)) p n t
+grown_attachment t n p o i h ok = attach_grows t h (record { child = n; parent = p; offset = o; priority = i }) (low_attachment t n p o i ok) ok.1.1.1.1.1.0
 
-pub decided_attach : (b : Backing) (t : Model) (n p o : ℕ) (i : ℤ) → Sound t → Passed (take 6 (edit_rows b t (Attach n p o i))) → Decided (edited b t (Attach n p o i))
+pub one_attachment : (t : Model) (n p o : ℕ) (i : ℤ) → Sound t → Passed (attach_rows t n p o) → OneNew (with_order t (inserted (record { child = n; parent = p; offset = o; priority = i }) t.attachments)) p
+one_attachment t n p o i h ok = grown_new _ t p n h.short (grown_attachment t n p o i h ok)
+
+pub decided_alias : (b : Backing) (t : Model) (n s r f : ℕ) → Sound t → Passed (alias_rows t n s r f) → Decided (edited b t (Alias n s r f))
 unfolding edited
-decided_attach b t n p o i h ok =
-    grown_decided _ t p n h.short (attach_grows t h (record { child = n; parent = p; offset = o; priority = i }) (new_attachment t n p o i ok.0 ok.1.0 ok.1.1.0 ok.1.1.1.0) ok.1.1.1.1.1.0)
+decided_alias b t n s r f h ok = grown_decided _ t n r h.short (grown_alias t n s r f h ok)
+
+pub decided_attach : (b : Backing) (t : Model) (n p o : ℕ) (i : ℤ) → Sound t → Passed (attach_rows t n p o) → Decided (edited b t (Attach n p o i))
+unfolding edited
+decided_attach b t n p o i h ok = grown_decided _ t p n h.short (grown_attachment t n p o i h ok)
 
 same_region : (t : Model) (n : ℕ) (x : Option Region) → Sound t → Fine x → ((s : ℕ) → In s (targets_of x) → Edge t n s) → Sound (with_region t n x)
 same_region t n x h fine sub = record {
@@ -287,10 +311,8 @@ pub sound_edit : (b : Backing) (t : Model) (e : Edit) → Passed (edit_rows b t 
 unfolding edited
 sound_edit b t (Container n s) ok h = same_region t n _ h (fine_new s body.Container ok.0 refl) (λ q i. absurd i)
 sound_edit b t (Leaf n s d) ok h = same_region t n _ h (fine_new s (body.Leaf d b.kind) ok.0 refl) (λ q i. absurd i)
-sound_edit b t (Alias n s r f) ok h =
-    grown_sound _ t n r (alias_grows t h n s r f ok.1.1.1.1.0 ok.0 (known_low t r ok.1.1.1.0) (ltb-false (2 ^ 40) f ok.1.0)) ok.1.1.1.1.1.1.0
-sound_edit b t (Attach n p o i) ok h =
-    grown_sound _ t p n (attach_grows t h (record { child = n; parent = p; offset = o; priority = i }) (new_attachment t n p o i ok.0 ok.1.0 ok.1.1.0 ok.1.1.1.0) ok.1.1.1.1.1.0) ok.1.1.1.1.1.1.1.0
+sound_edit b t (Alias n s r f) ok h = grown_sound _ t n r (grown_alias t n s r f h (first_passed (alias_rows t n s r f) (path_rows (edited b t (Alias n s r f))) ok)) ok.1.1.1.1.1.1.0
+sound_edit b t (Attach n p o i) ok h = grown_sound _ t p n (grown_attachment t n p o i h (first_passed (attach_rows t n p o) (path_rows (edited b t (Attach n p o i))) ok)) ok.1.1.1.1.1.1.1.0
 sound_edit b t (Detach n) ok h =
     let p = λ (c : Attachment). not (eqb c.child n) in
     same_order t (without_child n t.attachments) h (well_kept p t.attachments h.well) (λ r s. kept_held p r s t.attachments)

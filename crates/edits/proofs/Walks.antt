@@ -1,6 +1,6 @@
 -- What the tests of paths find.
 use Rattle.std.proofs.Common.{◌≡◌, ℕ, zero, suc, ◌+◌, ◌<◌, ◌≤◌, Bool, true, false, ◌||◌, eqb, ◌⊎◌, List, [], ◌∷◌, ◌++◌, map, length, Some, None, Decides, Option, sym, refl, ap, ◌∙◌, subst, inl, inr, ⊎_elim, arith}
-use Rattle.std.specs.List.{AllByRecursion}
+use Rattle.std.specs.List.{AllByRecursion, list_any}
 use Rattle.std.proofs.ByRecursion.{All-weaker}
 use Rattle.std.proofs.lemmas.List.{get_or_past}
 use Rattle.std.proofs.lemmas.Bool.{both_ways, or_left, or_right, or_cases, cond-true, cond-false, cond_both, cases_Bool, cases_lt, cases_eq, eqb-true, eq-eqb}
@@ -11,21 +11,21 @@ use Rattle.tree.specs.declared.regions.Region.{Region}
 use Rattle.tree.specs.declared.regions.Attachment.{Attachment}
 use Rattle.tree.specs.Model.{Model, region_at, under}
 use Rattle.tree.specs.Paths.{Holds, Edge, holds, shows, Path, stay, go, ComesBack, TooLong, Lawful}
-use Rattle.edits.specs.PathTests.{targets, targets_of, onward, any, below, goes_on, leads_to, comes_back, too_long, Decided}
-use Rattle.edits.specs.Limits.{Bounded, Low}
+use Rattle.edits.specs.PathTests.{targets, targets_of, onward, below, goes_on, leads_to, comes_back, too_long, Decided}
+use Rattle.edits.specs.Limits.{Low}
 use Rattle.edits.specs.Marks.{children}
 use Rattle.edits.specs.Edges.{Short, OneMore}
-use Rattle.edits.proofs.Limits.{low_from}
+use Rattle.edits.proofs.Limits.{Bounded, low_from}
 
 abbrev pub In : ℕ → List ℕ → Type 0
 In x [] = ⊥
 In x (y ∷ ys) = (y ≡ x) ⊎ In x ys
 
-any_some : (p : ℕ → Bool) (xs : List ℕ) → any p xs ≡ true → (x : ℕ) × In x xs × (p x ≡ true)
+any_some : (p : ℕ → Bool) (xs : List ℕ) → list_any p xs ≡ true → (x : ℕ) × In x xs × (p x ≡ true)
 any_some p [] e = absurd (both_ways false refl e)
-any_some p (x ∷ xs) e = ⊎_elim (λ h. (x, inl refl, h)) (λ h. let r = any_some p xs h in (r.0, inr r.1, r.2)) (or_cases (p x) (any p xs) e)
+any_some p (x ∷ xs) e = ⊎_elim (λ h. (x, inl refl, h)) (λ h. let r = any_some p xs h in (r.0, inr r.1, r.2)) (or_cases (p x) (list_any p xs) e)
 
-any_true : (p : ℕ → Bool) (xs : List ℕ) (x : ℕ) → In x xs → p x ≡ true → any p xs ≡ true
+any_true : (p : ℕ → Bool) (xs : List ℕ) (x : ℕ) → In x xs → p x ≡ true → list_any p xs ≡ true
 any_true p [] x i h = absurd i
 any_true p (y ∷ ys) x (inl e) h = or_left _ _ (ap p e ∙ h)
 any_true p (y ∷ ys) x (inr i) h = or_right (p y) _ (any_true p ys x i h)
@@ -148,6 +148,9 @@ edge_low t r s n (shows g f e is) = region_low t r g n.long e
 
 path_low : (t : Model) (r k s : ℕ) → Numbered t → Path t r (suc k) s → r < 64
 path_low t r k s n (go {q = q} e w) = edge_low t r q n e
+
+pub leads_low : (t : Model) (n r s : ℕ) → Numbered t → leads_to t n s r ≡ true → r < 64
+leads_low t n r s h e = let w = leads_path t n r s e in path_low t r w.0 s h w.1
 
 -- Too long.
 

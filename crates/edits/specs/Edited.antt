@@ -1,10 +1,10 @@
 -- What each edit makes of a tree, once no row refuses it.
-use Rattle.std.specs.Prelude.{ℕ, Bool, cond, not, List, [], ◌∷◌, Some, None, filter, Option, ◌==◌, slice_set}
+use Rattle.std.specs.Prelude.{ℕ, Bool, List, Some, None, Option, slice_set}
 use Rattle.tree.specs.declared.regions.Body.TheVariants as body
 use Rattle.tree.specs.declared.regions.Region.{Region}
 use Rattle.tree.specs.declared.regions.Attachment.{Attachment}
 use Rattle.tree.specs.Model.{Model, region_at, fresh}
-use Rattle.tree.specs.Order.{inserted}
+use Rattle.tree.specs.Order.{attachment_of, inserted, without_child}
 use Rattle.edits.specs.declared.edit.Edit.{Edit}
 use Rattle.edits.specs.declared.edit.Edit.TheVariants.{Container, Leaf, Alias, Attach, Detach, Move, Switch, Protect, Remove}
 use Rattle.edits.specs.declared.edit.Backing.{Backing}
@@ -22,15 +22,6 @@ switched b (Some g) = Some (record { body = g.body; size = g.size; on = b; prote
 abbrev pub marked : Bool → Option Region → Option Region
 marked b None = None
 marked b (Some g) = Some (record { body = g.body; size = g.size; on = g.on; protected = b })
-
--- the attachment of region n, if it has one
-abbrev pub attachment_of : ℕ → List Attachment → Option Attachment
-attachment_of n [] = None
-attachment_of n (c ∷ cs) = cond (c.child == n) (Some c) (attachment_of n cs)
-
--- all attachments but that of region n
-abbrev pub without_child : ℕ → List Attachment → List Attachment
-without_child n cs = filter (λ c. not (c.child == n)) cs
 
 -- the attachment again, at another offset and before its equals
 abbrev pub again_at : ℕ → Option Attachment → List Attachment → List Attachment

@@ -4,6 +4,5 @@ pub mod Edges
 pub mod Limits
 pub mod Rows
 pub mod Checks
-pub mod Ranks
 pub mod Marks
 pub mod Promises

@@ -1,15 +1,15 @@
--- Marks of regions.
-use Rattle.std.specs.Prelude.{◌≡◌, ℕ, ◌<◌, Bool, false, List, map, length, slice_index_or}
+-- Sets of regions.
+use Rattle.std.specs.Prelude.{◌≡◌, ℕ, ◌<◌, Bool, false, List, map, slice_index_or}
 use Rattle.tree.specs.declared.regions.Attachment.{Attachment}
 use Rattle.tree.specs.Model.{under}
+use Rattle.edits.specs.declared.marks.Marks.{Marks}
 
-abbrev pub marked_at : List Bool → ℕ → Bool
-marked_at xs k = slice_index_or xs k false
+abbrev pub has : Marks → ℕ → Bool
+has m k = slice_index_or m.marked k false
 
--- the marks xs say f of each region
-pub record Marks (f : ℕ → Bool) (xs : List Bool) : Type 0 where
-  pub long : length xs ≡ 64
-  pub each : (k : ℕ) → k < 64 → marked_at xs k ≡ f k
+-- the set has just the regions at which f is true
+abbrev pub IsSetOf : (ℕ → Bool) → Marks → Type 0
+IsSetOf f m = (k : ℕ) → k < 64 → has m k ≡ f k
 
 -- the children of r among the attachments cs
 abbrev pub children : ℕ → List Attachment → List ℕ

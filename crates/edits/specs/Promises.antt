@@ -9,7 +9,8 @@ use Rattle.tree.specs.Paths.{ComesBack, TooLong, Lawful}
 use Rattle.edits.specs.declared.edit.Edit.{Edit}
 use Rattle.edits.specs.declared.edit.Edit.TheVariants.{Container, Leaf, Alias, Attach, Detach, Move, Switch, Protect, Remove}
 use Rattle.edits.specs.declared.edit.Backing.{Backing}
-use Rattle.edits.specs.Edited.{attachment_of, without_child, edited}
+use Rattle.tree.specs.Order.{attachment_of, without_child}
+use Rattle.edits.specs.Edited.{edited}
 
 -- An edit is refused for a path that comes back just if there would be one, then for one that is too
 -- long just if there would be one, and an accepted edit makes neither.

@@ -3,7 +3,8 @@ ghost use Rattle.std.specs.Prelude.{◌≡◌};
 ghost use Rattle.tree.specs.Model.{model_of};
 ghost use Rattle.edits.specs.Checks.{Changed};
 ghost use Rattle.edits.specs.Promises.{PathsTold, OrderAfter};
-ghost use Rattle.edits.specs.Rows.{edit_refusal, edit_result, told};
+ghost use Rattle.model.specs.Rows.{told};
+ghost use Rattle.edits.specs.Rows.{edit_refusal, edit_result};
 
 use crate::changes::{
     attach, detach, make_alias, make_container, make_leaf, move_region, protect, remove, switch,

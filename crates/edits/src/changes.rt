@@ -1,15 +1,16 @@
-// The edits of a tree: each gives the changed table, or the first refusal that applies.
-ghost use Rattle.std.specs.Prelude.{◌≡◌, ◌^◌, ◌<◌, ◌≤◌, false, Some};
-ghost use Rattle.tree.specs.Model.{model_of, fresh};
-ghost use Rattle.tree.specs.Order.{has_child, inserted};
-ghost use Rattle.edits.specs.Checks.{Changed, Tested};
-ghost use Rattle.edits.specs.Edited.{with_region, with_order};
-ghost use Rattle.edits.specs.Limits.{Low};
-ghost use Rattle.edits.specs.Rows.{bad_size, defined};
+// The edits of a tree: each takes the fields of its variant of `Edit`, which keeps them together, and
+// gives the changed table, or the first refusal that applies.
+#![tactic(auto, unfolding(crate::specs::Edited::edited))]
+
+ghost use Rattle.std.specs.Prelude.{◌≡◌, true, Some};
+ghost use Rattle.tree.specs.Bounds.{bounded_region};
+ghost use Rattle.tree.specs.Model.{model_of};
+ghost use Rattle.tree.specs.declared.regions.Region.{Region};
+ghost use Rattle.edits.specs.Checks.{Changed, Child, New, NewAlias, NewAttachment, Replaced};
 ghost use Rattle.edits.specs.declared.edit.Backing.{Backing as Device};
 
 use crate::checks::{
-    check_attached, check_child, check_container, check_device, check_free, check_number,
+    Known, check_attached, check_container, check_device, check_free, check_no_root, check_number,
     check_offset, check_region, check_size, check_unattached, check_unused,
 };
 use crate::edit::{Backing, Edit};
@@ -20,25 +21,30 @@ use tree::regions::{Attachment, Body, Region};
 use tree::table::Table;
 use tree::tree::Tree;
 
-// A region as it is made: switched on, and not protected.
-fn new_region(body: Body, size: u64) -> Region
-    ensures { result ≡ fresh body size }
+// The number of a region that is to be made.
+fn check_new(tree: &Tree, number: u64, size: u64) -> Result<u8, Fault>
+    ensures { New (model_of tree.now.table) number size result }
 {
-    Region {
-        body,
-        size,
-        on: true,
-        protected: false,
-    }
+    check_size(size)?;
+    let index = check_number(number)?;
+    check_free(tree, index)?;
+    Ok(index)
+}
+
+// A region that is not the root.
+fn check_child(tree: &Tree, number: u64) -> Result<Known, Fault>
+    ensures { Child (model_of tree.now.table) number result }
+{
+    let known = check_region(tree, number)?;
+    check_no_root(number)?;
+    Ok(known)
 }
 
 pub(crate) fn make_container(tree: &Tree, number: u64, size: u64) -> Result<Table, Fault>
     ensures { (b : Device) → Changed b (model_of tree.now.table) (Edit.Container number size) result }
 {
-    check_size(size)?;
-    let index = check_number(number)?;
-    check_free(tree, index)?;
-    Ok(with_region(tree.table, index, Some(new_region(Body::Container, size))))
+    let index = check_new(tree, number, size)?;
+    Ok(with_region(tree.table, index, Some(Region::new(Body::Container, size))))
 }
 
 pub(crate) fn make_leaf(
@@ -50,32 +56,36 @@ pub(crate) fn make_leaf(
 ) -> Result<Table, Fault>
     ensures { Changed backing (model_of tree.now.table) (Edit.Leaf number size device) result }
 {
-    check_size(size)?;
-    let index = check_number(number)?;
-    check_free(tree, index)?;
+    let index = check_new(tree, number, size)?;
     let device = check_device(backing, device, size)?;
     let body = Body::Leaf {
         device,
         kind: backing.kind,
     };
-    Ok(with_region(tree.table, index, Some(new_region(body, size))))
+    Ok(with_region(tree.table, index, Some(Region::new(body, size))))
+}
+
+// The alias that is to be made. Its target is checked before whether its number is free, so this
+// does not begin with `check_new`.
+fn check_alias(tree: &Tree, number: u64, size: u64, target: u64, from: u64) -> Result<Known, Fault>
+    ensures { NewAlias (model_of tree.now.table) number size target from result }
+{
+    check_size(size)?;
+    check_offset(from)?;
+    let index = check_number(number)?;
+    let shown = check_region(tree, target)?;
+    check_free(tree, index)?;
+    let body = Body::Alias {
+        target: shown.number,
+        from,
+    };
+    Ok(Known {
+        number: index,
+        region: Region::new(body, size),
+    })
 }
 
 // A new alias, unless a path would be too long through it.
-fn with_alias(tree: &Tree, number: u8, size: u64, target: u8, from: u64) -> Result<Table, Fault>
-    requires number { number < 64 }
-    requires free { defined (model_of tree.now.table) number ≡ false }
-    requires size { bad_size size ≡ false }
-    requires target { target < 64 }
-    requires from { from ≤ 2 ^ 40 }
-    ensures { Tested (with_region (model_of tree.now.table) number (Some (fresh (Body.Alias target from) size))) result }
-{
-    let alias = new_region(Body::Alias { target, from }, size);
-    let table = with_region(tree.table, number, Some(alias));
-    check_paths(&table, number)?;
-    Ok(table)
-}
-
 pub(crate) fn make_alias(
     tree: &Tree,
     number: u64,
@@ -85,25 +95,36 @@ pub(crate) fn make_alias(
 ) -> Result<Table, Fault>
     ensures { (b : Device) → Changed b (model_of tree.now.table) (Edit.Alias number size target from) result }
 {
-    check_size(size)?;
-    check_offset(from)?;
-    let index = check_number(number)?;
-    check_region(tree, target)?;
-    check_free(tree, index)?;
-    with_alias(tree, index, size, target as u8, from)
+    let alias = check_alias(tree, number, size, target, from)?;
+    let table = with_region(tree.table, alias.number, Some(alias.region));
+    check_paths(table, alias.number)
+}
+
+// The attachment that is to be made.
+fn check_attachment(
+    tree: &Tree,
+    number: u64,
+    parent: u64,
+    offset: u64,
+    priority: i16,
+) -> Result<Attachment, Fault>
+    ensures { NewAttachment (model_of tree.now.table) (record { child = number; parent = parent; offset = offset; priority = priority }) result }
+{
+    check_offset(offset)?;
+    let child = check_region(tree, number)?;
+    let holder = check_region(tree, parent)?;
+    check_no_root(number)?;
+    check_container(holder.region)?;
+    check_unattached(tree, child.number)?;
+    Ok(Attachment {
+        child: child.number,
+        parent: holder.number,
+        offset,
+        priority,
+    })
 }
 
 // One more attachment, unless a path would come back or be too long through it.
-fn with_attachment(tree: &Tree, new: Attachment) -> Result<Table, Fault>
-    requires low { Low new }
-    requires free { has_child new.child (model_of tree.now.table).attachments ≡ false }
-    ensures { Tested (with_order (model_of tree.now.table) (inserted new (model_of tree.now.table).attachments)) result }
-{
-    let table = with_child(tree.table, new);
-    check_paths(&table, new.parent)?;
-    Ok(table)
-}
-
 pub(crate) fn attach(
     tree: &Tree,
     number: u64,
@@ -113,72 +134,66 @@ pub(crate) fn attach(
 ) -> Result<Table, Fault>
     ensures { (b : Device) → Changed b (model_of tree.now.table) (Edit.Attach number parent offset priority) result }
 {
-    check_offset(offset)?;
-    check_region(tree, number)?;
-    let holder = check_region(tree, parent)?;
-    check_child(number)?;
-    check_container(holder)?;
-    check_unattached(tree, number as u8)?;
-    with_attachment(
-        tree,
-        Attachment {
-            child: number as u8,
-            parent: parent as u8,
-            offset,
-            priority,
-        },
-    )
+    let new = check_attachment(tree, number, parent, offset, priority)?;
+    let table = with_child(tree.table, new);
+    check_paths(table, new.parent)
 }
 
 pub(crate) fn detach(tree: &Tree, number: u64) -> Result<Table, Fault>
     ensures { (b : Device) → Changed b (model_of tree.now.table) (Edit.Detach number) result }
 {
-    check_region(tree, number)?;
-    check_child(number)?;
-    check_attached(tree, number as u8)?;
-    Ok(without_child(tree.table, number as u8))
+    let child = check_child(tree, number)?;
+    check_attached(tree, child.number)?;
+    Ok(without_child(tree.table, child.number))
 }
 
 pub(crate) fn move_region(tree: &Tree, number: u64, offset: u64) -> Result<Table, Fault>
     ensures { (b : Device) → Changed b (model_of tree.now.table) (Edit.Move number offset) result }
 {
     check_offset(offset)?;
-    check_region(tree, number)?;
-    check_child(number)?;
-    let mut attachment = check_attached(tree, number as u8)?;
+    let child = check_child(tree, number)?;
+    let mut attachment = check_attached(tree, child.number)?;
     attachment.offset = offset;
-    let others = without_child(tree.table, number as u8);
-    Ok(with_child(others, attachment))
+    Ok(with_child(tree.table, attachment))
+}
+
+// Changes a region that is not the root in its own fields.
+fn change_region<F: FnOnce(Region) -> Region>(
+    tree: &Tree,
+    number: u64,
+    change: F,
+) -> Result<Table, Fault>
+    requires callable { F.IsAlwaysCallable change }
+    requires bounded { (g h : Region) → bounded_region (Some g) ≡ true → F.post change g h → bounded_region (Some h) ≡ true }
+    ensures { Replaced (model_of tree.now.table) number (F.post change) result }
+{
+    let child = check_child(tree, number)?;
+    Ok(with_region(tree.table, child.number, Some(change(child.region))))
 }
 
 pub(crate) fn switch(tree: &Tree, number: u64, on: bool) -> Result<Table, Fault>
     ensures { (b : Device) → Changed b (model_of tree.now.table) (Edit.Switch number on) result }
 {
-    let region = check_region(tree, number)?;
-    check_child(number)?;
-    Ok(with_region(tree.table, number as u8, Some(Region { on, ..region })))
+    change_region(tree, number, |region| Region { on, ..region })
 }
 
 pub(crate) fn protect(tree: &Tree, number: u64, protected: bool) -> Result<Table, Fault>
     ensures { (b : Device) → Changed b (model_of tree.now.table) (Edit.Protect number protected) result }
 {
-    let region = check_region(tree, number)?;
-    check_child(number)?;
-    Ok(with_region(
-        tree.table,
-        number as u8,
-        Some(Region {
+    change_region(
+        tree,
+        number,
+        |region| Region {
             protected,
             ..region
-        }),
-    ))
+        },
+    )
 }
 
 pub(crate) fn remove(tree: &Tree, number: u64) -> Result<Table, Fault>
     ensures { (b : Device) → Changed b (model_of tree.now.table) (Edit.Remove number) result }
 {
-    check_region(tree, number)?;
-    check_child(number)?;
-    check_unused(tree, number as u8)?;
-    Ok(with_region(tree.table, number as u8, None))
+    let child = check_child(tree, number)?;
+    check_unused(tree, child.number)?;
+    Ok(with_region(tree.table, child.number, None))
 }

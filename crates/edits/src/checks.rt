@@ -1,115 +1,110 @@
 // The checks that edits make, each for one cause of refusal.
-ghost use Rattle.std.specs.Prelude.{◌≡◌, ◌<◌, not, ◌||◌, Some, ◌==◌};
+ghost use Rattle.std.specs.Prelude.{◌≡◌, not, ◌||◌, Some, ◌==◌};
 ghost use Rattle.tree.specs.Model.{model_of};
-ghost use Rattle.tree.specs.Order.{has_child};
-ghost use Rattle.edits.specs.Rows.{bad_size, bad_offset, bad_device, no_number, defined, is_container, has_children, shows, aliased};
+ghost use Rattle.tree.specs.Order.{has_child, has_children};
+ghost use Rattle.edits.specs.Rows.{bad_size, bad_offset, bad_device, no_number, defined, is_container, shows, aliased};
 ghost use Rattle.edits.specs.Checks.{checked, Found, Attached};
 
 use crate::edit::Backing;
-use crate::order::{attachment_of, attachments, has_children};
+use interval::stretches::TOP;
 use model::faults::Fault;
 use tree::regions::{Attachment, Body, Region};
 use tree::tree::Tree;
 
-// The highest size and the highest offset.
-const LIMIT: u64 = 1 << 40;
+// A region of a tree, with its number.
+#[derive(Clone, Copy)]
+pub(crate) struct Known {
+    pub(crate) number: u8,
+    pub(crate) region: Region,
+}
+
+pub(crate) fn refuse_if(applies: bool, fault: Fault) -> Result<(), Fault>
+    ensures { result ≡ checked applies fault tt }
+{
+    if applies { Err(fault) } else { Ok(()) }
+}
 
 pub(crate) fn check_size(size: u64) -> Result<(), Fault>
     ensures { result ≡ checked (bad_size size) Fault.BadSize tt }
 {
-    if size == 0 || size > LIMIT {
-        return Err(Fault::BadSize);
-    }
-    Ok(())
+    refuse_if(size == 0 || size > TOP, Fault::BadSize)
 }
 
 pub(crate) fn check_offset(offset: u64) -> Result<(), Fault>
     ensures { result ≡ checked (bad_offset offset) Fault.BadOffset tt }
 {
-    if offset > LIMIT {
-        return Err(Fault::BadOffset);
-    }
-    Ok(())
+    refuse_if(offset > TOP, Fault::BadOffset)
 }
 
 // A number that a region may have.
 pub(crate) fn check_number(number: u64) -> Result<u8, Fault>
     ensures { result ≡ checked (no_number number) (Fault.NoRegion number) number }
 {
-    if number > 63 {
-        return Err(Fault::NoRegion(number));
+    match u8::try_from(number) {
+        Ok(index) if index < 64 => Ok(index),
+        _ => Err(Fault::NoRegion(number)),
     }
-    Ok(number as u8)
 }
 
 // A number that no region has yet.
 pub(crate) fn check_free(tree: &Tree, number: u8) -> Result<(), Fault>
-    requires { number < 64 }
     ensures { result ≡ checked (defined (model_of tree.now.table) number) Fault.Defined tt }
 {
-    if tree.table.regions[number as usize].is_some() {
-        return Err(Fault::Defined);
-    }
-    Ok(())
+    refuse_if(tree.region(u64::from(number)).is_some(), Fault::Defined)
 }
 
 // The region of a number.
-pub(crate) fn check_region(tree: &Tree, number: u64) -> Result<Region, Fault>
+pub(crate) fn check_region(tree: &Tree, number: u64) -> Result<Known, Fault>
     ensures { Found (model_of tree.now.table) number result }
 {
     let index = check_number(number)?;
-    match tree.table.regions[index as usize] {
-        Some(region) => Ok(region),
-        None => Err(Fault::NoRegion(number)),
-    }
+    let region = tree.region(number).ok_or(Fault::NoRegion(number))?;
+    Ok(Known {
+        number: index,
+        region,
+    })
 }
 
 // The root is no child of another region, and stays as it is.
-pub(crate) fn check_child(number: u64) -> Result<(), Fault>
+pub(crate) fn check_no_root(number: u64) -> Result<(), Fault>
     ensures { result ≡ checked (number == 0) Fault.Root tt }
 {
-    if number == 0 {
-        return Err(Fault::Root);
-    }
-    Ok(())
+    refuse_if(number == 0, Fault::Root)
 }
 
 pub(crate) fn check_container(region: Region) -> Result<(), Fault>
     ensures { result ≡ checked (not (is_container (Some region))) Fault.NoContainer tt }
 {
-    match region.body {
-        Body::Container => Ok(()),
-        _ => Err(Fault::NoContainer),
-    }
+    refuse_if(!matches!(region.body, Body::Container), Fault::NoContainer)
 }
 
 // The number of a device that has as many bytes as a leaf.
 pub(crate) fn check_device(backing: Backing, device: u64, size: u64) -> Result<u16, Fault>
     ensures { result ≡ checked (bad_device backing device size) (Fault.BadDevice device) device }
 {
-    if device > 65_535 || backing.length < size {
-        return Err(Fault::BadDevice(device));
+    match u16::try_from(device) {
+        Ok(device) if size <= backing.length => Ok(device),
+        _ => Err(Fault::BadDevice(device)),
     }
-    Ok(device as u16)
 }
 
 // The attachment of a region.
+#[tactic(auto, using(tree::proofs::Orders::attached_some))]
 pub(crate) fn check_attached(tree: &Tree, number: u8) -> Result<Attachment, Fault>
     ensures { Attached (model_of tree.now.table).attachments number result }
 {
-    match attachment_of(attachments(&tree.table), number) {
-        Some(attachment) => Ok(attachment),
-        None => Err(Fault::Unattached),
-    }
+    tree.table
+        .order
+        .attachment_of(number)
+        .ok_or(Fault::Unattached)
 }
 
+#[tactic(auto, using(tree::proofs::Orders::attached_some))]
 pub(crate) fn check_unattached(tree: &Tree, number: u8) -> Result<(), Fault>
     ensures { result ≡ checked (has_child number (model_of tree.now.table).attachments) Fault.InUse tt }
 {
-    match attachment_of(attachments(&tree.table), number) {
-        Some(_) => Err(Fault::InUse),
-        None => Ok(()),
-    }
+    let attachment = tree.table.order.attachment_of(number);
+    refuse_if(attachment.is_some(), Fault::InUse)
 }
 
 // A region that is not attached, has no children and is no alias's target.
@@ -117,34 +112,19 @@ pub(crate) fn check_unused(tree: &Tree, number: u8) -> Result<(), Fault>
     ensures { result ≡ checked (has_child number (model_of tree.now.table).attachments || (has_children (model_of tree.now.table).attachments number || aliased (model_of tree.now.table).regions number)) Fault.InUse tt }
 {
     check_unattached(tree, number)?;
-    if has_children(attachments(&tree.table), number) || is_target(&tree.table.regions, number) {
-        return Err(Fault::InUse);
-    }
-    Ok(())
+    let is_used = tree.table.order.has_children(number) || is_target(&tree.table.regions, number);
+    refuse_if(is_used, Fault::InUse)
 }
 
 // Whether an alias shows a region.
 fn is_target(regions: &[Option<Region>], number: u8) -> bool
     ensures { result ≡ aliased regions.now number }
 {
-    for region in regions {
-        if shows(*region, number) {
-            return true;
-        }
-    }
-    false
+    regions.iter().any(|region| shows(*region, number))
 }
 
 fn shows(region: Option<Region>, number: u8) -> bool
     ensures { result ≡ shows number region }
 {
-    match region {
-        Some(
-            Region {
-                body: Body::Alias { target, .. },
-                ..
-            },
-        ) => target == number,
-        _ => false,
-    }
+    region.is_some_and(|region| region.target() == Some(number))
 }

@@ -32,6 +32,7 @@ pub enum Edit {
         number: u64,
         offset: u64,
     },
+    // On or off, and protected or not: there is no third state that an enum could name.
     Switch {
         number: u64,
         on: bool,

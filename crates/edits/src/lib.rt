@@ -5,6 +5,7 @@ pub mod apply;
 mod changes;
 mod checks;
 pub mod edit;
-mod order;
+mod marking;
+mod marks;
 mod paths;
 mod tables;

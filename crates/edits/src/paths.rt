@@ -1,86 +1,39 @@
 // Tests of the paths along the edges of a table, from parent to child and from alias to target, by
 // rounds over all edges.
-ghost use Rattle.std.specs.Prelude.{◌≡◌, ℕ, ◌<◌, true, ◌||◌, length, None, slice_index_or};
-ghost use Rattle.tree.specs.Bounds.{bounded_region, bounded_regions, bounded_attachments};
+ghost use Rattle.std.specs.Prelude.{◌≡◌, ℕ, ◌<◌};
+ghost use Rattle.std.specs.List.{list_any};
 ghost use Rattle.tree.specs.Model.{model_of};
-ghost use Rattle.edits.specs.Limits.{Sized, Bounded};
-ghost use Rattle.edits.specs.Checks.{path_rows};
+ghost use Rattle.edits.specs.Checks.{Tested};
 ghost use Rattle.edits.specs.Edges.{OneNew};
-ghost use Rattle.edits.specs.Marks.{Marks, marked_at, children};
-ghost use Rattle.edits.specs.PathTests.{any, comes_back, goes_on, onward, targets_of, too_long};
-ghost use Rattle.edits.specs.Rows.{first_applying, told};
+ghost use Rattle.edits.specs.Marks.{IsSetOf, has};
+ghost use Rattle.edits.specs.PathTests.{comes_back, onward, reaches, too_long};
 
-use crate::order::attachments;
+use crate::checks::refuse_if;
+use crate::marks::Marks;
 use model::faults::Fault;
-use tree::regions::{Attachment, Body, Region};
 use tree::table::Table;
 
 // One edge more than a path may have.
 const TOO_FAR: usize = 9;
 
-// Whether a region is an alias of a marked one.
-fn shows_marked(region: Option<Region>, marked: &[bool]) -> bool
-    requires low { bounded_region region ≡ true }
-    requires long { length marked.now ≡ 64 }
-    ensures { result ≡ any (marked_at marked.now) (targets_of region) }
+// The regions from which an edge leads to a marked one.
+fn step_back(table: &Table, marked: &Marks) -> Marks
+    ensures { IsSetOf (λ k. list_any (has marked.now) (onward (model_of table.now) k)) result }
 {
-    match region {
-        Some(
-            Region {
-                body: Body::Alias { target, .. },
-                ..
-            },
-        ) => marked[target as usize],
-        _ => false,
-    }
-}
-
-// Marks the parents of marked regions.
-fn mark_parents(order: &[Attachment], marked: &[bool], before: &mut [bool])
-    requires low { bounded_attachments order.now ≡ true }
-    requires long { length marked.now ≡ 64 }
-    requires wide { length before.old ≡ 64 }
-    ensures { (k : ℕ) → marked_at before.new k ≡ (marked_at before.old k || any (marked_at marked.now) (children k order.now)) }
-{
-    for attachment in order {
-        before[attachment.parent as usize] |= marked[attachment.child as usize];
-    }
-}
-
-// Marks the aliases of marked regions.
-fn mark_aliases(regions: &[Option<Region>], marked: &[bool], before: &mut [bool])
-    requires low { bounded_regions regions.now ≡ true }
-    requires numbered { length regions.now ≡ 64 }
-    requires long { length marked.now ≡ 64 }
-    requires wide { length before.old ≡ 64 }
-    ensures { (k : ℕ) → marked_at before.new k ≡ (marked_at before.old k || any (marked_at marked.now) (targets_of (slice_index_or regions.now k None))) }
-{
-    for i in 0..regions.len() {
-        before[i] |= shows_marked(regions[i], marked);
-    }
-}
-
-// Marks the regions from which an edge leads to a marked one.
-fn step_back(table: &Table, marked: &[bool]) -> [bool; 64]
-    requires sized { Sized table.now }
-    requires bounded { Bounded (model_of table.now) }
-    requires long { length marked.now ≡ 64 }
-    ensures { Marks (λ k. any (marked_at marked.now) (onward (model_of table.now) k)) result }
-{
-    let mut before = [false; 64];
-    mark_parents(attachments(table), marked, &mut before);
-    mark_aliases(&table.regions, marked, &mut before);
+    let mut before = Marks::none();
+    before.add_parents(table.order.attachments(), marked);
+    before.add_aliases(&table.regions, marked);
     before
 }
 
-// Marks the regions at which a path of so many edges begins.
-fn starts_of(table: &Table, edges: usize) -> [bool; 64]
-    requires sized { Sized table.now }
-    requires bounded { Bounded (model_of table.now) }
-    ensures { Marks (goes_on (model_of table.now) edges) result }
+// The regions from which a path of `TOO_FAR` edges leads to one of `last`, or of fewer, but one at
+// least, to one of `always`.
+fn rounds_back(table: &Table, last: Marks, always: &Marks) -> Marks
+    ensures { IsSetOf (reaches (model_of table.now) (has last) (has always.now) 9) result }
 {
-    let mut marked = [true; 64];
-    for _ in 0..edges {
+    let mut marked = last;
+    for _ in 0..TOO_FAR {
+        marked.add_all(always);
         marked = step_back(table, &marked);
     }
     marked
@@ -88,43 +41,26 @@ fn starts_of(table: &Table, edges: usize) -> [bool; 64]
 
 // Whether some path has over 8 edges.
 fn is_too_long(table: &Table) -> bool
-    requires sized { Sized table.now }
-    requires bounded { Bounded (model_of table.now) }
     ensures { result ≡ too_long (model_of table.now) }
 {
-    starts_of(table, TOO_FAR).contains(&true)
+    !rounds_back(table, Marks::all(), &Marks::none()).is_empty()
 }
 
 // Whether some path comes back to its start. Just one edge is new, from the region `from`, and before
 // it no path had over 8 edges: so such a path leads from `from` back to it within 9.
 fn comes_back(table: &Table, from: u8) -> bool
-    requires sized { Sized table.now }
-    requires bounded { Bounded (model_of table.now) }
-    requires low { from < 64 }
-    requires one { OneNew (model_of table.now) from }
+    requires { OneNew (model_of table.now) from }
     ensures { result ≡ comes_back (model_of table.now) }
 {
-    let mut marked = [false; 64];
-    for _ in 0..TOO_FAR {
-        marked[from as usize] = true;
-        marked = step_back(table, &marked);
-    }
-    marked[from as usize]
+    rounds_back(table, Marks::none(), &Marks::only(from)).has(from)
 }
 
-// Refuses paths that come back or are too long, after one new edge from a region.
-pub(crate) fn check_paths(table: &Table, from: u8) -> Result<(), Fault>
-    requires sized { Sized table.now }
-    requires bounded { Bounded (model_of table.now) }
-    requires low { from < 64 }
-    requires one { OneNew (model_of table.now) from }
-    ensures { result ≡ told (first_applying (path_rows (model_of table.now))) }
+// A table with one new edge, from a region, unless a path comes back or is too long.
+pub(crate) fn check_paths(table: Table, from: u8) -> Result<Table, Fault>
+    requires { OneNew (model_of table) from }
+    ensures { Tested (model_of table) result }
 {
-    if comes_back(table, from) {
-        return Err(Fault::Cycle);
-    }
-    if is_too_long(table) {
-        return Err(Fault::TooDeep);
-    }
-    Ok(())
+    refuse_if(comes_back(&table, from), Fault::Cycle)?;
+    refuse_if(is_too_long(&table), Fault::TooDeep)?;
+    Ok(table)
 }

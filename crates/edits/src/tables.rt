@@ -1,46 +1,38 @@
 // Changed copies of a table.
 ghost use Rattle.std.specs.Prelude.{◌≡◌, ◌<◌, true};
+ghost use Rattle.tree.specs.Bounds.{bounded_region};
 ghost use Rattle.tree.specs.Model.{model_of};
-ghost use Rattle.tree.specs.Order.{has_child, inserted};
-ghost use Rattle.edits.specs.Edited.{with_region, with_order, without_child};
-ghost use Rattle.edits.specs.Limits.{Sized};
+ghost use Rattle.tree.specs.Order.{inserted, without_child};
+ghost use Rattle.edits.specs.Edited.{with_region, with_order};
+ghost use Rattle.edits.specs.Limits.{Low};
 
-use crate::order::{insert, take_out};
 use tree::regions::{Attachment, Region};
 use tree::table::Table;
 
 // Another region, or none, under a number.
 pub(crate) fn with_region(mut table: Table, number: u8, region: Option<Region>) -> Table
-    requires sized { Sized table }
     requires low { number < 64 }
-    ensures model { model_of result ≡ with_region (model_of table) number region }
-    ensures sized { Sized result }
+    requires bounded { bounded_region region ≡ true }
+    ensures { model_of result ≡ with_region (model_of table) number region }
 {
-    table.regions[number as usize] = region;
+    table.regions[usize::from(number)] = region;
     table
 }
 
-// One more attachment, before all that have no higher priority.
+// One more attachment, or its child's moved, before all that have no higher priority.
 pub(crate) fn with_child(mut table: Table, new: Attachment) -> Table
-    requires sized { Sized table }
-    requires room { table.attached < 63 }
-    ensures model { model_of result ≡ with_order (model_of table) (inserted new (model_of table).attachments) }
-    ensures sized { Sized result }
+    requires { Low new }
+    ensures { model_of result ≡ with_order (model_of table) (inserted new (without_child new.child (model_of table).attachments)) }
 {
-    let count = table.attached;
-    insert(&mut table.order, count, new);
-    table.attached = count + 1;
+    // The order is not full without the child, since each of the 63 regions but the root is in it once.
+    let _ = table.order.insert(new);
     table
 }
 
 // All attachments but that of one region.
 pub(crate) fn without_child(mut table: Table, number: u8) -> Table
-    requires { Sized table }
-    ensures model { model_of result ≡ with_order (model_of table) (without_child number (model_of table).attachments) }
-    ensures sized { Sized result }
-    ensures fewer { has_child number (model_of table).attachments ≡ true → result.attached < 63 }
+    ensures { model_of result ≡ with_order (model_of table) (without_child number (model_of table).attachments) }
 {
-    let count = table.attached;
-    table.attached = take_out(&mut table.order, count, number);
+    table.order.take_out(number);
     table
 }

@@ -21,46 +21,68 @@ struct Step {
     answer: Result<(), Fault>,
 }
 
-fn container(number: u64, size: u64, answer: Result<(), Fault>) -> Step {
-    Step {
-        edit: Edit::Container { number, size },
-        answer,
+impl Step {
+    fn new(edit: Edit, answer: Result<(), Fault>) -> Step {
+        Step { edit, answer }
     }
+}
+
+fn container(number: u64, size: u64, answer: Result<(), Fault>) -> Step {
+    Step::new(Edit::Container { number, size }, answer)
 }
 
 fn leaf(number: u64, size: u64, device: u64, answer: Result<(), Fault>) -> Step {
-    Step {
-        edit: Edit::Leaf {
-            number,
-            size,
-            device,
-        },
-        answer,
-    }
+    let edit = Edit::Leaf {
+        number,
+        size,
+        device,
+    };
+    Step::new(edit, answer)
 }
 
 fn alias(number: u64, target: u64, from: u64, answer: Result<(), Fault>) -> Step {
-    Step {
-        edit: Edit::Alias {
-            number,
-            size: 16,
-            target,
-            from,
-        },
-        answer,
-    }
+    let edit = Edit::Alias {
+        number,
+        size: 16,
+        target,
+        from,
+    };
+    Step::new(edit, answer)
 }
 
 fn attach(number: u64, parent: u64, answer: Result<(), Fault>) -> Step {
-    Step {
-        edit: Edit::Attach {
-            number,
-            parent,
-            offset: 0,
-            priority: 0,
-        },
-        answer,
-    }
+    attach_at(number, parent, 0, answer)
+}
+
+// The same at a priority.
+fn attach_at(number: u64, parent: u64, priority: i16, answer: Result<(), Fault>) -> Step {
+    let edit = Edit::Attach {
+        number,
+        parent,
+        offset: 0,
+        priority,
+    };
+    Step::new(edit, answer)
+}
+
+fn detach(number: u64, answer: Result<(), Fault>) -> Step {
+    Step::new(Edit::Detach { number }, answer)
+}
+
+fn move_to(number: u64, offset: u64, answer: Result<(), Fault>) -> Step {
+    Step::new(Edit::Move { number, offset }, answer)
+}
+
+fn switch(number: u64, on: bool, answer: Result<(), Fault>) -> Step {
+    Step::new(Edit::Switch { number, on }, answer)
+}
+
+fn protect(number: u64, on: bool, answer: Result<(), Fault>) -> Step {
+    Step::new(Edit::Protect { number, on }, answer)
+}
+
+fn remove(number: u64, answer: Result<(), Fault>) -> Step {
+    Step::new(Edit::Remove { number }, answer)
 }
 
 fn run(rt: &impl Abort, tree: &mut Tree, steps: &[Step]) {
@@ -119,16 +141,10 @@ fn paths_neither_come_back_nor_run_on(rt: HostRuntime) -> Result<(), Fail> {
         alias(30, 1, 0, Ok(())),
         attach(30, 9, Err(Fault::TooDeep)),
         attach(30, 8, Err(Fault::Cycle)),
-        Step {
-            edit: Edit::Detach { number: 1 },
-            answer: Ok(()),
-        },
+        detach(1, Ok(())),
         attach(1, 8, Err(Fault::Cycle)),
         attach(12, 8, Err(Fault::TooDeep)),
-        Step {
-            edit: Edit::Remove { number: 30 },
-            answer: Ok(()),
-        },
+        remove(30, Ok(())),
         attach(12, 8, Ok(())),
     ];
     run(&rt, &mut tree, &steps);
@@ -143,129 +159,46 @@ fn regions_in_use_stay(rt: HostRuntime) -> Result<(), Fail> {
         leaf(2, 16, 0, Ok(())),
         attach(2, 1, Ok(())),
         alias(3, 2, 0, Ok(())),
-        Step {
-            edit: Edit::Remove { number: 0 },
-            answer: Err(Fault::Root),
-        },
-        Step {
-            edit: Edit::Remove { number: 1 },
-            answer: Err(Fault::InUse),
-        },
-        Step {
-            edit: Edit::Remove { number: 2 },
-            answer: Err(Fault::InUse),
-        },
-        Step {
-            edit: Edit::Detach { number: 2 },
-            answer: Ok(()),
-        },
-        Step {
-            edit: Edit::Remove { number: 2 },
-            answer: Err(Fault::InUse),
-        },
-        Step {
-            edit: Edit::Detach { number: 2 },
-            answer: Err(Fault::Unattached),
-        },
-        Step {
-            edit: Edit::Move {
-                number: 2,
-                offset: TOP,
-            },
-            answer: Err(Fault::Unattached),
-        },
-        Step {
-            edit: Edit::Move {
-                number: 9,
-                offset: TOP + 1,
-            },
-            answer: Err(Fault::BadOffset),
-        },
-        Step {
-            edit: Edit::Remove { number: 3 },
-            answer: Ok(()),
-        },
-        Step {
-            edit: Edit::Remove { number: 2 },
-            answer: Ok(()),
-        },
-        Step {
-            edit: Edit::Switch {
-                number: 2,
-                on: true,
-            },
-            answer: Err(Fault::NoRegion(2)),
-        },
-        Step {
-            edit: Edit::Protect {
-                number: 0,
-                on: true,
-            },
-            answer: Err(Fault::Root),
-        },
-        Step {
-            edit: Edit::Protect {
-                number: 1,
-                on: true,
-            },
-            answer: Ok(()),
-        },
+        remove(0, Err(Fault::Root)),
+        remove(1, Err(Fault::InUse)),
+        remove(2, Err(Fault::InUse)),
+        detach(2, Ok(())),
+        remove(2, Err(Fault::InUse)),
+        detach(2, Err(Fault::Unattached)),
+        move_to(2, TOP, Err(Fault::Unattached)),
+        move_to(9, TOP + 1, Err(Fault::BadOffset)),
+        remove(3, Ok(())),
+        remove(2, Ok(())),
+        switch(2, true, Err(Fault::NoRegion(2))),
+        protect(0, true, Err(Fault::Root)),
+        protect(1, true, Ok(())),
     ];
     run(&rt, &mut tree, &steps);
     Ok(())
 }
 
+// The child that stands at a place of the search order.
+fn child_at(tree: &Tree, place: usize) -> Option<u8> {
+    let attachment = tree.table.order.attachments().get(place)?;
+    Some(attachment.child)
+}
+
 #[test]
 fn the_last_attached_or_moved_leads_its_equals(rt: HostRuntime) -> Result<(), Fail> {
     let mut tree = Tree::new(0x10000)?;
-    run(
-        &rt,
-        &mut tree,
-        &[
-            leaf(1, 16, 0, Ok(())),
-            leaf(2, 16, 0, Ok(())),
-            leaf(3, 16, 0, Ok(())),
-        ],
-    );
-    let low = Edit::Attach {
-        number: 3,
-        parent: 0,
-        offset: 0,
-        priority: -32768,
-    };
-    assert_eq!(rt; edit(&mut tree, low, RAM), Ok(()));
-    run(
-        &rt,
-        &mut tree,
-        &[attach(1, 0, Ok(())), attach(2, 0, Ok(()))],
-    );
-    let first = tree.table.order[0].child;
-    assert_eq!(rt; first, 2);
-    assert_eq!(rt;
-        edit(
-            &mut tree,
-            Edit::Move {
-                number: 1,
-                offset: 0,
-            },
-            RAM,
-        ),
-        Ok(())
-    );
-    assert_eq!(rt;
-        edit(
-            &mut tree,
-            Edit::Move {
-                number: 3,
-                offset: 8,
-            },
-            RAM,
-        ),
-        Ok(())
-    );
-    let first = tree.table.order[0].child;
-    assert_eq!(rt; first, 1);
-    let last = tree.table.order[2].child;
-    assert_eq!(rt; last, 3);
+    let steps = [
+        leaf(1, 16, 0, Ok(())),
+        leaf(2, 16, 0, Ok(())),
+        leaf(3, 16, 0, Ok(())),
+        attach_at(3, 0, -32768, Ok(())),
+        attach(1, 0, Ok(())),
+        attach(2, 0, Ok(())),
+    ];
+    run(&rt, &mut tree, &steps);
+    assert_eq!(rt; child_at(&tree, 0), Some(2));
+    let steps = [move_to(1, 0, Ok(())), move_to(3, 8, Ok(()))];
+    run(&rt, &mut tree, &steps);
+    assert_eq!(rt; child_at(&tree, 0), Some(1));
+    assert_eq!(rt; child_at(&tree, 2), Some(3));
     Ok(())
 }

@@ -1,10 +1,13 @@
 -- The map that a sweep leaves.
-use Rattle.std.proofs.Common.{◌≡◌, ℕ, ◌^◌, ◌≤◌, true, false, leb, List, length, take, None, Ok, Option, Result, sym, refl, ap, ◌∙◌, subst, inl, inr, arith, lit<, length-take}
+use Rattle.std.proofs.Common.{◌≡◌, ℕ, ◌^◌, ◌≤◌, true, false, leb, List, length, take, None, Ok, Err, Option, Result, true≢false, sym, refl, ap, ◌∙◌, subst, inl, inr, arith, lit<, length-take}
 use Rattle.std.proofs.lemmas.Bool.{and_parts, leb-true, le-leb, lt-ltb, le-ltb, cond-true, cond-false, cases_lt}
+use Rattle.std.specs.Result.{MatchResult, IsErrAnd, is_ok}
+use Rattle.std.proofs.lemmas.Result.{err_from_is_err_and}
 use Rattle.interval.specs.Laws.{HoldsMaximal}
 use Rattle.interval.specs.Stretches.{rising, at}
 use Rattle.interval.proofs.Only.{only}
-use Rattle.sweep.specs.Laws.{below}
+use Rattle.interval.specs.declared.refusals.Refusal.{Refusal}
+use Rattle.sweep.specs.Laws.{below, Swept}
 use Rattle.sweep.specs.Maps.{stretches}
 use Rattle.sweep.proofs.Showing.{maximal}
 use Rattle.model.specs.declared.faults.Fault.{Fault}
@@ -22,6 +25,17 @@ use Rattle.flat.specs.Ranges.{settled}
 use Rattle.flat.proofs.Placed.{place_laws}
 use Rattle.flat.proofs.Settling.{settled_from, settled_true}
 
+-- what is `Ok` after a refusal is turned into another was `Ok` before
+pub ok_before : {X Y Z : Type 0} (Q : Y → Z → Type 0) (r : Result X Y) (s : Result X Z) (x : X) → MatchResult r (λ y. s ≡ Ok y) (λ e. IsErrAnd s (Q e)) → s ≡ Ok x → r ≡ Ok x
+ok_before Q (Ok y) s x m is = ap (elim [ Ok z ↦ Ok z | Err e ↦ Ok y ]) (sym m ∙ is)
+ok_before Q (Err e) s x m is = let f = err_from_is_err_and s m in absurd (true≢false (sym (ap is_ok is) ∙ ap is_ok f.1))
+
+-- a sweep whose answer is `Ok` after its refusal is turned into another left the one maximal list
+pub swept_by : {Z : Type 0} (Q : Refusal → Z → Type 0) (f : ℕ → Option Place) (size : ℕ) (was now : List Range) (r : Result ℕ Refusal) (s : Result ℕ Z) (n : ℕ)
+    → Swept moved same_place f size was now r → MatchResult r (λ k. s ≡ Ok k) (λ e. IsErrAnd s (Q e)) → s ≡ Ok n
+    → HoldsMaximal moved same_place (below size f) was now n
+swept_by Q f size was now r s n swept m is = (subst (Swept moved same_place f size was now) (ok_before Q r s n m is) swept).1
+
 -- two lists that give each address the same are one
 pub same_map : (f : ℕ → Option Place) (xs ys : List Range) → IsMap f xs → IsMap f ys → xs ≡ ys
 same_map f xs ys p q = only moved place_laws.zero same_place place_laws.exact xs ys 0 p.order p.settled q.order q.settled (λ a. p.labels a ∙ sym (q.labels a))
@@ -31,7 +45,7 @@ only_map f xs m = record { maximal = m; only = λ ys k. same_map f ys xs k m }
 
 -- the ranges of a map are the only ones that give each address what they give it
 pub own_map : (m : FlatMap) → OnlyMap (at moved (ranges_of m)) (ranges_of m)
-own_map m = only_map (at moved (ranges_of m)) (ranges_of m) (record { order = m.rises; settled = settled_true (ranges_of m) m.apart; labels = λ a. refl })
+own_map m = only_map (at moved (ranges_of m)) (ranges_of m) (record { order = m.map.rises; settled = settled_true (ranges_of m) m.apart; labels = λ a. refl })
 
 pub stretches_map : (f : ℕ → Option Place) (size : ℕ) → size ≤ 2 ^ 40 → IsMap (below size f) (stretches moved same_place f 0 size)
 stretches_map f size top = maximal moved same_place place_laws f size top

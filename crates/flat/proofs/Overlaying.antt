@@ -74,4 +74,4 @@ overlay_laws = record {
 pub overlay_below : (m n : FlatMap) (r : Result FlatMap Fault) → Flattened (below (2 ^ 40) (over (at moved (ranges_of m)) (at moved (ranges_of n)))) r → Flattened (over (at moved (ranges_of m)) (at moved (ranges_of n))) r
 overlay_below m n r h =
     let f = over (at moved (ranges_of m)) (at moved (ranges_of n)) in
-    subst (λ g. Flattened g r) (below_all f (2 ^ 40) (λ a high. ap (λ o. or_else o (at moved (ranges_of n) a)) (past_top 0 a (ranges_of m) m.rises high) ∙ past_top 0 a (ranges_of n) n.rises high)) h
+    subst (λ g. Flattened g r) (below_all f (2 ^ 40) (λ a high. ap (λ o. or_else o (at moved (ranges_of n) a)) (past_top 0 a (ranges_of m) m.map.rises high) ∙ past_top 0 a (ranges_of n) n.map.rises high)) h

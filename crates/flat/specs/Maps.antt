@@ -1,5 +1,6 @@
 -- The flat map of a tree.
-use Rattle.std.specs.Prelude.{cond, List, length, take, Ok, Err, Result, nat_le}
+use Rattle.std.specs.Prelude.{cond, List, length, Ok, Err, Result, nat_le}
+use Rattle.interval.specs.Maps.{live}
 use Rattle.sweep.specs.Maps.{stretches}
 use Rattle.model.specs.declared.faults.Fault.{Fault}
 use Rattle.model.specs.declared.faults.Fault.TheVariants.{MapFull}
@@ -15,7 +16,7 @@ map_of t = stretches moved same_place (search t) 0 (root_size t)
 
 -- the ranges of a map
 abbrev pub ranges_of : FlatMap → List Range
-ranges_of m = take m.count m.ranges
+ranges_of m = live m.map
 
 -- a list of ranges as a map, which has at most 256
 abbrev pub fitting : List Range → Result (List Range) Fault

@@ -1,18 +1,15 @@
 // The ranges of a flat map.
-ghost use Rattle.std.specs.Prelude.{◌≡◌, ◌≤◌, true, length, take};
-ghost use Rattle.interval.specs.Stretches.{rising};
+ghost use Rattle.std.specs.Prelude.{◌≡◌, true};
+ghost use Rattle.interval.specs.Maps.{live};
 ghost use Rattle.flat.specs.Ranges.{settled};
 
-use model::ranges::Range;
+use interval::maps::IntervalMap;
+use model::places::Place;
+use model::ranges::CAPACITY;
 
-// At most 256 ranges that rise without overlap, of which none runs on into the next. Of `ranges` only
-// the first `count` records count.
+// At most 256 ranges that rise without overlap, of which none runs on into the next.
 #[derive(Clone, Copy)]
 pub struct FlatMap {
-    pub(crate) ranges: [Range; 256],
-    pub(crate) count: usize,
-    ghost rows: { length ranges ≡ 256 },
-    ghost fits: { count ≤ 256 },
-    ghost rises: { rising 0 (take count ranges) ≡ true },
-    ghost apart: { settled (take count ranges) ≡ true },
+    pub(crate) map: IntervalMap<Place, CAPACITY>,
+    ghost apart: { settled (live map) ≡ true },
 }

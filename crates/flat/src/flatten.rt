@@ -11,27 +11,13 @@ ghost use Rattle.flat.specs.Overlays.{Layered};
 
 use crate::flat_map::FlatMap;
 use crate::views::TreeView;
-use interval::stretches::Stretch;
+use interval::maps::IntervalMap;
 use model::faults::Fault;
-use model::kinds::Kind;
 use model::places::Place;
-use model::ranges::Range;
+use model::ranges::{CAPACITY, UNUSED};
 use sweep::sources::Source;
 use sweep::sweeps::sweep;
 use tree::tree::Tree;
-
-// What stands in the records that do not count.
-const UNUSED: Range = Stretch {
-    start: 0,
-    length: 0,
-    label: Place {
-        leaf: 0,
-        device: 0,
-        offset: 0,
-        kind: Kind::Ram,
-        writes: false,
-    },
-};
 
 // What a source shows below `size`, as a map if that has at most 256 ranges.
 pub(crate) fn flattened<S: Source<Shown = Place>>(source: &S, size: u64) -> Result<FlatMap, Fault>
@@ -39,11 +25,11 @@ pub(crate) fn flattened<S: Source<Shown = Place>>(source: &S, size: u64) -> Resu
     ensures is { told result ≡ fitting (stretches moved same_place (S.Source.shows source.now) 0 size) }
     ensures stands { Flattened (below size (S.Source.shows source.now)) result }
 {
-    let mut ranges = [UNUSED; 256];
-    match sweep(source, size, &mut ranges) {
-        Ok(count) => Ok(FlatMap { ranges, count }),
-        Err(_) => Err(Fault::MapFull),
-    }
+    let mut records = [UNUSED; CAPACITY];
+    let used = sweep(source, size, &mut records).map_err(|_| Fault::MapFull)?;
+    Ok(FlatMap {
+        map: IntervalMap { records, used },
+    })
 }
 
 impl FlatMap {
@@ -52,8 +38,7 @@ impl FlatMap {
         ensures { ranges_of result ≡ [] }
     {
         FlatMap {
-            ranges: [UNUSED; 256],
-            count: 0,
+            map: IntervalMap::new(UNUSED),
         }
     }
 

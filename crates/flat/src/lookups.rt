@@ -18,14 +18,14 @@ impl FlatMap {
         ensures is { result ≡ length (ranges_of self.now) }
         ensures small { result ≤ 256 }
     {
-        self.ranges().len()
+        self.map.len()
     }
 
     // The ranges, rising.
     pub fn ranges(&self) -> &[Range]
         ensures { result.now ≡ ranges_of self.now }
     {
-        &self.ranges[0..self.count]
+        self.map.stretches()
     }
 
     // The ranges as a view that knows their order. No other rising list of which none runs on into
@@ -34,9 +34,7 @@ impl FlatMap {
         ensures is { result.live.now ≡ ranges_of self.now }
         ensures only { OnlyMap (at moved (ranges_of self.now)) (ranges_of self.now) }
     {
-        Ordered {
-            live: self.ranges(),
-        }
+        self.map.ordered()
     }
 
     // The range that holds the address, if there is one, by halving.
@@ -44,7 +42,7 @@ impl FlatMap {
         ensures is { result ≡ found (ranges_of self.now) address }
         ensures finds { Finds (ranges_of self.now) address result }
     {
-        self.ordered().find(address)
+        self.map.find(address)
     }
 
     // The place of the address, if it has one.

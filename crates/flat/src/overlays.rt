@@ -10,11 +10,12 @@ ghost use Rattle.flat.specs.Overlays.{over, overlay as the_overlay, OverlayLaws}
 use crate::flat_map::FlatMap;
 use crate::flatten::flattened;
 use interval::labels::Label;
+use interval::sightings::Sighting;
 use interval::stretches::TOP;
 use model::faults::Fault;
 use model::places::Place;
 use model::ranges::Range;
-use sweep::sources::{Sighting, Source};
+use sweep::sources::Source;
 
 // The place of an address, if a range holds it, and for how many addresses on, up to `limit`, it runs
 // on or there is none.

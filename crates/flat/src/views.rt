@@ -2,8 +2,9 @@
 ghost use Rattle.tree.specs.Model.{model_of};
 ghost use Rattle.tree.specs.Search.{search};
 
+use interval::sightings::Sighting;
 use model::places::Place;
-use sweep::sources::{Sighting, Source};
+use sweep::sources::Source;
 use tree::tree::Tree;
 
 // The places of the guest addresses of a tree.
@@ -18,10 +19,6 @@ impl<'a> Source for TreeView<'a> {
     ghost shows = { λ v. search (model_of v.tree.now.table) };
 
     fn sight(&self, address: u64, limit: u64) -> Sighting<Place> {
-        let seen = self.tree.probe(address, limit);
-        Sighting {
-            label: seen.place,
-            extent: seen.extent,
-        }
+        self.tree.probe(address, limit)
     }
 }

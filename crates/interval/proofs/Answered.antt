@@ -11,7 +11,7 @@ use Rattle.interval.specs.declared.refusals.Refusal.{Refusal}
 use Rattle.interval.specs.declared.refusals.Refusal.TheVariants.{Empty, High, Disorder, Taken}
 use Rattle.interval.specs.declared.stretches.Stretch.{Stretch}
 use Rattle.interval.specs.Stretches.{rising, ready, stop}
-use Rattle.interval.specs.Edits.{free, cut, paint, ended, started, between, first_left, last_right}
+use Rattle.interval.specs.Edits.{free, cut, paint, ended, started, first_left, last_right}
 use Rattle.interval.specs.Calls.{checked, fitted, spliced, put_goal, cut_goal, paint_goal}
 use Rattle.interval.proofs.Cutting.{cut_is}
 use Rattle.interval.proofs.Painting.{paint_is}
@@ -32,25 +32,27 @@ passed table used start size ok =
     let q = and_parts (leb used (length table)) _ p.2 in
     record { some = grind (arith, nat_tests); under = leb-true _ _ p.1; within = leb-true _ _ q.0; order = q.1 }
 
-module _ {L : Type 0} (table : List (Stretch L)) (used : ℕ) (s : Stretch L) (r : ℕ × ℕ) (met : r ≡ between s.start (stop s) (take used table)) (ok : checked table used s.start s.length ≡ Ok tt) where
-  pub put_taken : r.0 < r.1 → put_goal table used s ≡ Err Taken
+module _ {L : Type 0} (table : List (Stretch L)) (used : ℕ) (s : Stretch L) (from to : ℕ) (is_from : from ≡ ended s.start (take used table)) (is_to : to ≡ started (stop s) (take used table)) (ok : checked table used s.start s.length ≡ Ok tt) where
+  pub put_taken : from < to → put_goal table used s ≡ Err Taken
   put_taken h =
       let p = passed table used s.start s.length ok in
       let f : free s.start (stop s) (take used table) ≡ false
-      = free_is s.start (stop s) (omega arith) 0 (take used table) p.order ∙ lt-leb _ _ (omega (arith, ap (λ z. z.0) met, ap (λ z. z.1) met)) in
+      = free_is s.start (stop s) (omega arith) 0 (take used table) p.order ∙ lt-leb _ _ (omega arith) in
       cond-false _ _ _ f
 
-  pub put_goes : r.1 ≤ r.0 → put_goal table used s ≡ fitted table (spliced table used r.0 r.0 (s ∷ []))
-  put_goes h =
+  pub put_goes : to ≤ from → from ≤ to → put_goal table used s ≡ fitted table (spliced table used from to (s ∷ []))
+  put_goes h h' =
       let p = passed table used s.start s.length ok in
       let xs = take used table in
       let i = ended s.start xs in
       let f : free s.start (stop s) xs ≡ true
-      = free_is s.start (stop s) (omega arith) 0 xs p.order ∙ le-leb _ _ (omega (arith, ap (λ z. z.0) met, ap (λ z. z.1) met)) in
+      = free_is s.start (stop s) (omega arith) 0 xs p.order ∙ le-leb _ _ (omega arith) in
       let k = prefix_len-le-length (λ x. leb (stop x) s.start) xs in
       let n = length-take used table in
+      let is_from' : ended s.start xs ≡ from = sym is_from in
+      let both : ended s.start xs ≡ to = omega arith in
       let front : take i xs ≡ take i table = take-take i used table (omega arith) in
-      cond-true _ _ _ f ∙ ap (fitted table) (put_is s 0 xs p.some p.order f ∙ ap (λ z. z ++ (s ∷ drop i xs)) front ∙ ap (λ z. take z table ++ (s ∷ drop z xs)) (sym (ap (λ z. z.0) met)))
+      cond-true _ _ _ f ∙ ap (fitted table) (put_is s 0 xs p.some p.order f ∙ ap (λ z. z ++ (s ∷ drop i xs)) front ∙ (λ k. take (is_from' k) table ++ (s ∷ drop (both k) xs)))
 
 -- the records from i up to j of the live part, and of the table
 module _ {X : Type 0} (table : List X) (used i j : ℕ) (order : i ≤ j) (within : j ≤ used) where
@@ -60,35 +62,31 @@ module _ {X : Type 0} (table : List X) (used i j : ℕ) (order : i ≤ j) (withi
   pub live_part : drop i (take j (take used table)) ≡ part i j table
   live_part = ap (drop i) (take-take j used table within) ∙ sym (between_is table i j)
 
-module _ {L : Type 0} (adv : L → ℕ → L) (table : List (Stretch L)) (used start size : ℕ) (r : ℕ × ℕ) (l b : Option (Stretch L))
-    (met : r ≡ between start (start + size) (take used table)) (order : r.0 ≤ r.1) (within : r.1 ≤ used)
-    (before : l ≡ first_left start (part r.0 r.1 table)) (behind : b ≡ last_right adv (start + size) (part r.0 r.1 table))
+module _ {L : Type 0} (adv : L → ℕ → L) (table : List (Stretch L)) (used start size from to : ℕ) (l b : Option (Stretch L))
+    (is_from : from ≡ ended start (take used table)) (is_to : to ≡ started (start + size) (take used table)) (order : from ≤ to) (within : to ≤ used)
+    (before : l ≡ first_left start (part from to table)) (behind : b ≡ last_right adv (start + size) (part from to table))
     (ok : checked table used start size ≡ Ok tt) where
-  pub cut_goes : cut_goal adv table used start size ≡ fitted table (spliced table used r.0 r.1 (option_to_list l ++ [] ++ option_to_list b))
+  pub cut_goes : cut_goal adv table used start size ≡ fitted table (spliced table used from to (option_to_list l ++ [] ++ option_to_list b))
   cut_goes =
       let p = passed table used start size ok in
       let xs = take used table in
       let is = cut_is adv start (start + size) (omega arith) 0 xs p.order in
-      let i : r.0 ≡ ended start xs = ap (λ z. z.0) met in
-      let j : r.1 ≡ started (start + size) xs = ap (λ z. z.1) met in
-      let front = live_front table used r.0 r.1 order within in
-      let held = live_part table used r.0 r.1 order within in
+      let front = live_front table used from to order within in
+      let held = live_part table used from to order within in
       let nil : option_to_list l ++ [] ≡ option_to_list l = append-nil (option_to_list l) in
-      let same : cut adv start (start + size) xs ≡ spliced table used r.0 r.1 (option_to_list l ++ [] ++ option_to_list b) = cc in
+      let same : cut adv start (start + size) xs ≡ spliced table used from to (option_to_list l ++ [] ++ option_to_list b) = cc in
       ap (fitted table) same
 
-module _ {L : Type 0} (adv : L → ℕ → L) (table : List (Stretch L)) (used : ℕ) (s : Stretch L) (r : ℕ × ℕ) (l b : Option (Stretch L))
-    (met : r ≡ between s.start (stop s) (take used table)) (order : r.0 ≤ r.1) (within : r.1 ≤ used)
-    (before : l ≡ first_left s.start (part r.0 r.1 table)) (behind : b ≡ last_right adv (stop s) (part r.0 r.1 table))
+module _ {L : Type 0} (adv : L → ℕ → L) (table : List (Stretch L)) (used : ℕ) (s : Stretch L) (from to : ℕ) (l b : Option (Stretch L))
+    (is_from : from ≡ ended s.start (take used table)) (is_to : to ≡ started (stop s) (take used table)) (order : from ≤ to) (within : to ≤ used)
+    (before : l ≡ first_left s.start (part from to table)) (behind : b ≡ last_right adv (stop s) (part from to table))
     (ok : checked table used s.start s.length ≡ Ok tt) where
-  pub paint_goes : paint_goal adv table used s ≡ fitted table (spliced table used r.0 r.1 (option_to_list l ++ (s ∷ []) ++ option_to_list b))
+  pub paint_goes : paint_goal adv table used s ≡ fitted table (spliced table used from to (option_to_list l ++ (s ∷ []) ++ option_to_list b))
   paint_goes =
       let p = passed table used s.start s.length ok in
       let xs = take used table in
       let is = paint_is adv 0 xs s p.some p.order in
-      let i : r.0 ≡ ended s.start xs = ap (λ z. z.0) met in
-      let j : r.1 ≡ started (stop s) xs = ap (λ z. z.1) met in
-      let front = live_front table used r.0 r.1 order within in
-      let held = live_part table used r.0 r.1 order within in
-      let same : paint adv xs s ≡ spliced table used r.0 r.1 (option_to_list l ++ (s ∷ []) ++ option_to_list b) = cc in
+      let front = live_front table used from to order within in
+      let held = live_part table used from to order within in
+      let same : paint adv xs s ≡ spliced table used from to (option_to_list l ++ (s ∷ []) ++ option_to_list b) = cc in
       ap (fitted table) same

@@ -2,6 +2,7 @@
 use Rattle.std.proofs.Common.{◌≡◌, ℕ, ◌+◌, ◌-◌, ◌<◌, ◌≤◌, max, Bool, true, false, cond, ◌&&◌, eqb, ltb, leb, ◌⊎◌, List, [], ◌∷◌, ◌++◌, Some, None, Decides, Option, sym, refl, ap, ◌∙◌, inl, inr, append_assoc, arith}
 use Rattle.std.proofs.lemmas.Bool.{true≢false, and_parts, and_from, and_left, and_right, or_parts, leb-true, leb-false, ltb-true, eqb-true, le-leb, lt-leb, lt-ltb, le-ltb, cond-true, cond-false, cond_both, cases_lt, cases_Bool}
 use Rattle.std.proofs.lemmas.Bool.Decides.{nat_tests}
+use Rattle.std.proofs.lemmas.Option.{none-some}
 use Rattle.std.specs.Option.{option_map, option_to_list}
 use Rattle.interval.specs.declared.stretches.Stretch.{Stretch}
 use Rattle.interval.specs.Stretches.{rising, stop, holds, found, at}
@@ -57,10 +58,7 @@ module _ {L : Type 0} (adv : L → ℕ → L) (a : ℕ) where
       at_not x xs k ∙ at_free s xs q.1 h
 
   at_some : (x : Stretch L) (xs : List (Stretch L)) → holds x a ≡ true → at adv (x ∷ xs) a ≡ None → ⊥
-  at_some x xs h none = never (here x) (sym (at_yes x xs h) ∙ none) refl
-    where
-      never : (o : Option L) → o ≡ None → o ≡ here x → ⊥
-      never o p q = let z : ◌≡◌ {A = ℕ} 0 1 = cc in omega arith
+  at_some x xs h none = none-some _ (sym none ∙ at_yes x xs h)
 
   module _ (c e : ℕ) (forward : c < e) where
     two : (x : Stretch L) (xs : List (Stretch L)) → apart c e x ≡ false → at adv (cut adv c e (x ∷ xs)) a ≡ at adv (option_to_list (left c x) ++ (option_to_list (right adv e x) ++ cut adv c e xs)) a

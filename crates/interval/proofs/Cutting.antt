@@ -95,11 +95,7 @@ module _ {L : Type 0} (adv : L → ℕ → L) (a e : ℕ) (forward : a < e) wher
             ∙ sym (there (x ∷ xs) _ _ _ _ (cond-true _ _ _ (le-leb _ _ under)) (starts (omega arith)) ∙ front x xs i j)
       ]
 
--- the first and the last of stretches that stand together
-pub first_is : {L : Type 0} (a : ℕ) (xs : List (Stretch L)) (x : Stretch L) → 0 < length xs → x ≡ get_or xs 0 x → left a x ≡ first_left a xs
-first_is a [] x h read = absurd (omega arith)
-first_is a (y ∷ ys) x h read = ap (left a) read
-
+-- the last of stretches that stand together
 pub last_is : {L : Type 0} (adv : L → ℕ → L) (e : ℕ) (xs : List (Stretch L)) (x : Stretch L) (n : ℕ) → length xs ≡ suc n → x ≡ get_or xs n x → right adv e x ≡ last_right adv e xs
 last_is adv e [] x n h read = absurd (omega arith)
 last_is adv e (y ∷ []) x n h read = let z : n ≡ 0 = omega arith in ap (right adv e) (read ∙ ap (λ k. get_or (y ∷ []) k x) z)

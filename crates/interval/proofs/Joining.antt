@@ -1,5 +1,5 @@
 -- The loop that joins a rising list in place.
-use Rattle.std.proofs.Common.{◌≡◌, ℕ, suc, ◌+◌, ◌-◌, ◌^◌, ◌<◌, ◌≤◌, Bool, true, false, eqb, leb, List, [], ◌∷◌, ◌++◌, length, get_or, take, drop, set, sym, refl, ap, ◌∙◌, append_assoc, add-one, arith}
+use Rattle.std.proofs.Common.{◌≡◌, ℕ, suc, ◌+◌, ◌-◌, ◌^◌, ◌<◌, ◌≤◌, Bool, true, false, eqb, leb, List, [], ◌∷◌, ◌++◌, length, get_or, take, drop, set, sym, ap, ◌∙◌, append_assoc, add-one, arith}
 use Rattle.std.proofs.lemmas.List.{at_drop_all, take_more_set, drop-set-lt, drop-drop, get_or-drop, get_or-take, set_split, length_push, length-take-le}
 use Rattle.std.proofs.lemmas.Bool.{and_parts, leb-true, eqb-true, cond-true, cond-false}
 use Rattle.interval.specs.declared.stretches.Stretch.{Stretch}
@@ -33,20 +33,6 @@ module _ {L : Type 0} (adv : L → ℕ → L) (same : L → L → Bool) (start :
 
     long : length (take used start) ≡ used
     long = length-take-le used start within
-
-    pub joined_start : (x : Stretch L) → 0 < used → x ≡ get_or start 0 x → PartJoined 1 0 x start
-    joined_start x h read =
-        let n = long in
-        let e = at_read (λ ys. rising 0 ys) (take used start) 0 x (omega arith) (live 0 x h read) in
-        let p = rises 0 x (drop 1 (take used start)) (sym e ∙ (and_parts (leb used (length start)) _ ok).1) in
-        record {
-          behind = omega arith;
-          upto = omega arith;
-          rest = refl;
-          front = sym (at_read (join adv same) (take used start) 0 x (omega arith) (live 0 x h read));
-          order = p.rest;
-          under = p.under;
-        }
 
     module _ (k kept : ℕ) (last : Stretch L) (table : List (Stretch L)) (size : length table ≡ length start) (inv : PartJoined k kept last table) (more : k < used) (next : Stretch L) (read : next ≡ get_or table k next) where
       as_first : next ≡ get_or start k next

@@ -5,7 +5,6 @@ pub mod Finding
 pub mod Fits
 pub mod Joining
 pub mod Only
-pub mod Order
 pub mod Orders
 pub mod Painting
 pub mod Placing

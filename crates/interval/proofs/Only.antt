@@ -1,6 +1,7 @@
 -- A rising list in which no stretch runs on is fixed by what stands at each address.
 use Rattle.std.proofs.Common.{◌≡◌, ℕ, ◌-◌, ◌<◌, Bool, true, leb, List, [], ◌∷◌, Some, None, Decides, Option, sym, refl, ap, ◌∙◌, inl, inr, arith}
 use Rattle.std.proofs.lemmas.Bool.{and_from, and_left, and_right, le-leb, lt-leb, lt-ltb, le-ltb, eq-eqb, cases_lt, cases_order, both_ways}
+use Rattle.std.proofs.lemmas.Option.{none-some}
 use Rattle.interval.specs.declared.stretches.Stretch.{Stretch}
 use Rattle.interval.specs.Stretches.{rising, stop, at}
 use Rattle.interval.specs.Edits.{runs_on}
@@ -8,9 +9,6 @@ use Rattle.interval.specs.Laws.{Settled}
 use Rattle.interval.proofs.AtLaws.{at_yes, at_not}
 use Rattle.interval.proofs.Orders.{rising_from}
 use Rattle.interval.proofs.Spans.{rises}
-
-some_none : {X : Type 0} (o : Option X) (x : X) → o ≡ Some x → o ≡ None → ⊥
-some_none o x p q = let z : ◌≡◌ {A = ℕ} 0 1 = cc in omega arith
 
 some_some : {X : Type 0} (o : Option X) (x y : X) → o ≡ Some x → o ≡ Some y → x ≡ y
 some_some o x y p q = cc
@@ -40,10 +38,10 @@ module _ {L : Type 0} (adv : L → ℕ → L) (zero : (x : L) → adv x 0 ≡ x)
 
     -- where x is settled, nothing goes on from its end
     ends : (x : Stretch L) (xs : List (Stretch L)) → rising (stop x) xs ≡ true → Settled adv same (x ∷ xs) → at adv xs (stop x) ≡ Some (adv x.label x.length) → ⊥
-    ends x [] r s h = some_none _ _ h refl
+    ends x [] r s h = none-some _ h
     ends x (y ∷ ys) r s h =
         elim (cases_lt (stop x) y.start) [
-          | inl gap ↦ some_none _ _ h (before_first (stop x) (stop x) y ys r gap)
+          | inl gap ↦ none-some _ (sym (before_first (stop x) (stop x) y ys r gap) ∙ h)
           | inr no_gap ↦ (let p = rises (stop x) y ys r in
               let touch : stop x ≡ y.start = omega (arith, p.above) in
               let label : adv x.label x.length ≡ y.label = some_some (at adv (y ∷ ys) (stop x)) _ _ h (ap (at adv (y ∷ ys)) touch ∙ at_start (stop x) y ys r) in
@@ -62,15 +60,15 @@ module _ {L : Type 0} (adv : L → ℕ → L) (zero : (x : L) → adv x 0 ≡ x)
 
     pub only : (xs ys : List (Stretch L)) (low : ℕ) → rising low xs ≡ true → Settled adv same xs → rising low ys ≡ true → Settled adv same ys → ((a : ℕ) → at adv xs a ≡ at adv ys a) → xs ≡ ys
     only [] [] low r s t u h = refl
-    only [] (y ∷ ys) low r s t u h = absurd (some_none _ _ (at_start low y ys t) (sym (h y.start)))
-    only (x ∷ xs) [] low r s t u h = absurd (some_none _ _ (at_start low x xs r) (h x.start))
+    only [] (y ∷ ys) low r s t u h = absurd (none-some _ (h y.start ∙ at_start low y ys t))
+    only (x ∷ xs) [] low r s t u h = absurd (none-some _ (sym (h x.start) ∙ at_start low x xs r))
     only (x ∷ xs) (y ∷ ys) low r s t u h =
         let m = rises low x xs r in
         let n = rises low y ys t in
         let p : x.start ≡ y.start = elim (cases_order x.start y.start) [
           | inl same_start ↦ same_start
-          | inr (inl less) ↦ absurd (some_none _ _ (at_start low x xs r) (h x.start ∙ before_first x.start low y ys t less))
-          | inr (inr more) ↦ absurd (some_none _ _ (at_start low y ys t) (sym (h y.start) ∙ before_first y.start low x xs r more))
+          | inr (inl less) ↦ absurd (none-some _ (sym (h x.start ∙ before_first x.start low y ys t less) ∙ at_start low x xs r))
+          | inr (inr more) ↦ absurd (none-some _ (sym (sym (h y.start) ∙ before_first y.start low x xs r more) ∙ at_start low y ys t))
         ] in
         let q : x.label ≡ y.label = some_some (at adv (x ∷ xs) x.start) _ _ (at_start low x xs r) (h x.start ∙ ap (at adv (y ∷ ys)) p ∙ at_start low y ys t) in
         let l : x.length ≡ y.length = elim (cases_order x.length y.length) [

@@ -1,8 +1,8 @@
 -- What a splice leaves in the table.
-use Rattle.std.proofs.Common.{◌≡◌, ℕ, ◌+◌, ◌-◌, ◌<◌, ◌≤◌, List, [], ◌∷◌, ◌++◌, length, take, drop, set, Some, None, Option, sym, refl, ap, ◌∙◌, append_assoc, add-one, arith, length-append, length-drop, length-take}
+use Rattle.std.proofs.Common.{◌≡◌, ℕ, ◌+◌, ◌-◌, ◌<◌, ◌≤◌, List, [], ◌∷◌, ◌++◌, length, take, drop, set, Some, Option, sym, refl, ap, ◌∙◌, append_assoc, add-one, arith, length-append, length-drop, length-take}
 use lib.Seq.{paste}
 use Rattle.std.proofs.lemmas.List.{set_split, take-append-le, take_all, drop_at, take-take, length-take-le}
-use Rattle.std.proofs.lemmas.List.Edits.{paste_none, paste-paste}
+use Rattle.std.proofs.lemmas.List.Edits.{paste-paste}
 use Rattle.std.specs.Option.{option_to_list}
 use Rattle.std.proofs.lemmas.Slice.{between_is}
 use Rattle.interval.specs.Calls.{spliced}
@@ -39,9 +39,6 @@ module _ {X : Type 0} where
 
   pub paste_piece : (xs : List X) (i : ℕ) (o : Option X) (x : X) → o ≡ Some x → i + length (option_to_list o) ≤ length xs → set xs i x ≡ paste xs i (option_to_list o) (length (option_to_list o))
   paste_piece xs i o x e h = rw e (paste_one xs i x (omega (arith, rw e at h)))
-
-  pub paste_no_piece : (xs : List X) (i : ℕ) (o : Option X) → o ≡ None → xs ≡ paste xs i (option_to_list o) (length (option_to_list o))
-  paste_no_piece xs i o e = rw e (paste_none xs i [])
 
   -- three pastes, one after the other
   pub paste_three : (xs l m r t2 t3 t4 : List X) (from i j : ℕ) → from ≤ length xs → t2 ≡ paste xs from l (length l) → i ≡ from + length l → t3 ≡ paste t2 i m (length m) → j ≡ i + length m → t4 ≡ paste t3 j r (length r)

@@ -21,10 +21,6 @@ ended a xs = prefix_len (λ s. leb (stop s) a) xs
 abbrev pub started : {L : Type 0} → ℕ → List (Stretch L) → ℕ
 started e xs = prefix_len (λ s. ltb s.start e) xs
 
--- in a rising list, the stretches that hold an address from `a` up to `e`
-abbrev pub between : {L : Type 0} → ℕ → ℕ → List (Stretch L) → ℕ × ℕ
-between a e xs = (ended a xs, started e xs)
-
 -- the list with one stretch more, in its place by start
 abbrev pub put : {L : Type 0} → List (Stretch L) → Stretch L → List (Stretch L)
 put [] s = s ∷ []

@@ -41,13 +41,17 @@ abbrev pub Laid : {L : Type 0} → (L → ℕ → L) → List (Stretch L) → �
 Laid advanced was used s now r = Edited advanced (with_stretch advanced s (at advanced (take used was))) was now r
 
 -- a put is accepted only where all its addresses were free, and refused as taken only where one was not
+abbrev pub OnFree : {L X : Type 0} → (L → ℕ → L) → List (Stretch L) → Stretch L → Result X Refusal → Type 0
+OnFree advanced was s (Ok x) = (a : ℕ) → holds s a ≡ true → at advanced was a ≡ None
+OnFree advanced was s (Err Taken) = (a : ℕ) × (holds s a ≡ true) × (at advanced was a ≢ None)
+OnFree advanced was s (Err Empty) = Unit {0}
+OnFree advanced was s (Err High) = Unit {0}
+OnFree advanced was s (Err Disorder) = Unit {0}
+OnFree advanced was s (Err Short) = Unit {0}
+
+-- the same of a put into a table
 abbrev pub WasFree : {L : Type 0} → (L → ℕ → L) → List (Stretch L) → ℕ → Stretch L → Result ℕ Refusal → Type 0
-WasFree advanced was used s (Ok n) = (a : ℕ) → holds s a ≡ true → at advanced (take used was) a ≡ None
-WasFree advanced was used s (Err Taken) = (a : ℕ) × (holds s a ≡ true) × (at advanced (take used was) a ≢ None)
-WasFree advanced was used s (Err Empty) = Unit {0}
-WasFree advanced was used s (Err High) = Unit {0}
-WasFree advanced was used s (Err Disorder) = Unit {0}
-WasFree advanced was used s (Err Short) = Unit {0}
+WasFree advanced was used s r = OnFree advanced (take used was) s r
 
 -- a cut leaves none of its addresses, and all others as they were
 abbrev pub CutOut : {L : Type 0} → (L → ℕ → L) → List (Stretch L) → ℕ → ℕ → ℕ → List (Stretch L) → Result ℕ Refusal → Type 0

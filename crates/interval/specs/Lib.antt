@@ -1,4 +1,5 @@
 pub mod Calls
 pub mod Edits
 pub mod Laws
+pub mod Maps
 pub mod Stretches

@@ -1,15 +1,17 @@
 // Put, cut and paint.
-ghost use Rattle.std.specs.Prelude.{◌≡◌, ◌<◌, ◌≤◌, length, take, Ok, nat_le};
+ghost use Rattle.std.specs.Prelude.{◌≡◌, ◌<◌, ◌≤◌, true, length, take, Ok};
 ghost use Rattle.std.specs.List.{between as part};
-ghost use Rattle.interval.specs.Edits.{ended, started, between, left, right, first_left, last_right};
+ghost use Rattle.interval.specs.Edits.{ended, started, left, right, first_left, last_right};
 ghost use Rattle.interval.specs.Laws.{Laid, WasFree, CutOut};
-ghost use Rattle.interval.specs.Stretches.{stop};
+ghost use Rattle.interval.specs.Stretches.{ready};
 ghost use Rattle.interval.specs.Calls.{checked, counted, written, put_goal, put_answer, cut_goal, cut_answer, paint_goal, paint_answer};
 
-use crate::labels::{Label, SameLabel};
+use crate::labels::Label;
+use crate::ordered::Ordered;
 use crate::refusals::Refusal;
 use crate::splices::splice;
-use crate::stretches::{Stretch, TOP, covers, is_ready};
+use crate::stretches::{Stretch, TOP, is_ready};
+use std::ops::Range;
 
 // The refusals that all edits share.
 fn check<L>(table: &[Stretch<L>], used: usize, start: u64, length: u64) -> Result<(), Refusal>
@@ -27,50 +29,23 @@ fn check<L>(table: &[Stretch<L>], used: usize, start: u64, length: u64) -> Resul
     Ok(())
 }
 
-fn ends_by<L>(s: &Stretch<L>, address: u64) -> bool
-    ensures { result ≡ nat_le (stop s.now) address }
+// The live records that hold an address of the span, by their places.
+fn overlap<L: Label>(table: &[Stretch<L>], used: usize, span: &Range<u64>) -> Range<usize>
+    requires ready { ready table.now used ≡ true }
+    requires forward { span.now.start < span.now.end }
+    ensures from { result.start ≡ ended span.now.start (take used table.now) }
+    ensures to { result.end ≡ started span.now.end (take used table.now) }
+    ensures order { result.start ≤ result.end }
+    ensures within { result.end ≤ used }
 {
-    s.start <= address && s.length <= address - s.start
-}
-
-// How many of the first stretches end at or before the address.
-fn count_ended<L>(live: &[Stretch<L>], address: u64) -> usize
-    ensures { result ≡ ended address live.now }
-{
-    for (i, s) in live.iter().enumerate() {
-        if !ends_by(s, address) {
-            return i;
-        }
-    }
-    live.len()
-}
-
-// How many of the first stretches start before the address.
-fn count_started<L>(live: &[Stretch<L>], address: u64) -> usize
-    ensures { result ≡ started address live.now }
-{
-    for (i, s) in live.iter().enumerate() {
-        if s.start >= address {
-            return i;
-        }
-    }
-    live.len()
-}
-
-// The live records that hold an address from `start` up to `stop`: from which to which.
-fn overlap<L>(table: &[Stretch<L>], used: usize, start: u64, stop: u64) -> (usize, usize)
-    requires used_within { used ≤ length table.now }
-    requires forward { start < stop }
-    ensures value { result ≡ between start stop (take used table.now) }
-    ensures order { result.0 ≤ result.1 }
-    ensures within { result.1 ≤ used }
-{
-    let live = &table[0..used];
-    (count_ended(live, start), count_started(live, stop))
+    let live = Ordered {
+        live: &table[0..used],
+    };
+    live.overlap(span)
 }
 
 // Adds a stretch, where its addresses are free.
-pub fn put<L: SameLabel>(
+pub fn put<L: Label>(
     table: &mut [Stretch<L>],
     used: usize,
     new: Stretch<L>,
@@ -84,7 +59,8 @@ pub fn put<L: SameLabel>(
     put_checked(table, used, new)
 }
 
-// A put that `check` allows.
+// A put that `check` allows. The lent table and its count stay apart, since a type that kept both
+// with their order would hold a `&mut` beside a ghost field, which gets no proof.
 fn put_checked<L: Label>(
     table: &mut [Stretch<L>],
     used: usize,
@@ -96,11 +72,12 @@ fn put_checked<L: Label>(
     ensures stands { Laid L.Label.advanced table.old used new table.new result }
     ensures free { WasFree L.Label.advanced table.old used new result }
 {
-    let (from, to) = overlap(table, used, new.start, new.start + new.length);
-    if from < to {
+    let span = new.start..new.start + new.length;
+    let held = overlap(table, used, &span);
+    if !held.is_empty() {
         return Err(Refusal::Taken);
     }
-    splice(table, used, from, from, None, Some(new), None)
+    splice(table, used, &held, None, Some(new), None)
 }
 
 // What the stretch has before the address.
@@ -121,7 +98,7 @@ fn left_of<L: Copy>(s: &Stretch<L>, address: u64) -> Option<Stretch<L>>
 fn right_of<L: Label>(s: &Stretch<L>, address: u64) -> Option<Stretch<L>>
     ensures { result ≡ right L.Label.advanced address s.now }
 {
-    if !covers(s, address) {
+    if !s.covers(address) {
         return None;
     }
     let skipped = address - s.start;
@@ -132,28 +109,26 @@ fn right_of<L: Label>(s: &Stretch<L>, address: u64) -> Option<Stretch<L>>
     })
 }
 
-// What the records `from` up to `to` have on both sides of the addresses from `start` up to `stop`.
+// What the first of the held records has before the span, and the last behind it.
 fn remainders<L: Label>(
     table: &[Stretch<L>],
-    from: usize,
-    to: usize,
-    start: u64,
-    stop: u64,
+    held: &Range<usize>,
+    span: &Range<u64>,
 ) -> (Option<Stretch<L>>, Option<Stretch<L>>)
-    requires from_within { from ≤ to }
-    requires to_within { to ≤ length table.now }
-    ensures before { result.0 ≡ first_left start (part from to table.now) }
-    ensures behind { result.1 ≡ last_right L.Label.advanced stop (part from to table.now) }
+    requires order { held.now.start ≤ held.now.end }
+    requires within { held.now.end ≤ length table.now }
+    ensures before { result.0 ≡ first_left span.now.start (part held.now.start held.now.end table.now) }
+    ensures behind { result.1 ≡ last_right L.Label.advanced span.now.end (part held.now.start held.now.end table.now) }
 {
-    match &table[from..to] {
+    match &table[held.start..held.end] {
         [] => (None, None),
-        [only] => (left_of(only, start), right_of(only, stop)),
-        [first, .., last] => (left_of(first, start), right_of(last, stop)),
+        [only] => (left_of(only, span.start), right_of(only, span.end)),
+        [first, .., last] => (left_of(first, span.start), right_of(last, span.end)),
     }
 }
 
 // Takes the addresses out; the remainders on both sides stay.
-pub fn cut<L: SameLabel>(
+pub fn cut<L: Label>(
     table: &mut [Stretch<L>],
     used: usize,
     start: u64,
@@ -179,14 +154,14 @@ fn cut_checked<L: Label>(
     ensures after { table.new ≡ written table.old (cut_goal L.Label.advanced table.old used start length) }
     ensures stands { CutOut L.Label.advanced table.old used start length table.new result }
 {
-    let stop = start + length;
-    let (from, to) = overlap(table, used, start, stop);
-    let (left, right) = remainders(table, from, to, start, stop);
-    splice(table, used, from, to, left, None, right)
+    let span = start..start + length;
+    let held = overlap(table, used, &span);
+    let (left, right) = remainders(table, &held, &span);
+    splice(table, used, &held, left, None, right)
 }
 
 // Cuts the addresses of a stretch out, and puts it there.
-pub fn paint<L: SameLabel>(
+pub fn paint<L: Label>(
     table: &mut [Stretch<L>],
     used: usize,
     new: Stretch<L>,
@@ -210,8 +185,8 @@ fn paint_checked<L: Label>(
     ensures after { table.new ≡ written table.old (paint_goal L.Label.advanced table.old used new) }
     ensures stands { Laid L.Label.advanced table.old used new table.new result }
 {
-    let stop = new.start + new.length;
-    let (from, to) = overlap(table, used, new.start, stop);
-    let (left, right) = remainders(table, from, to, new.start, stop);
-    splice(table, used, from, to, left, Some(new), right)
+    let span = new.start..new.start + new.length;
+    let held = overlap(table, used, &span);
+    let (left, right) = remainders(table, &held, &span);
+    splice(table, used, &held, left, Some(new), right)
 }

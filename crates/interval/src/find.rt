@@ -1,13 +1,15 @@
 // Finding the stretch of an address.
-ghost use Rattle.std.specs.Prelude.{◌≡◌};
+ghost use Rattle.std.specs.Prelude.{◌≡◌, ◌<◌, ◌≤◌, length};
 ghost use Rattle.interval.specs.Calls.{find_answer, Live};
+ghost use Rattle.interval.specs.Edits.{ended, started};
 ghost use Rattle.interval.specs.Laws.{Finds, FindStands};
 ghost use Rattle.interval.specs.Stretches.{found};
 
 use crate::labels::Label;
 use crate::ordered::Ordered;
 use crate::refusals::Refusal;
-use crate::stretches::{Stretch, covers, is_ready};
+use crate::stretches::{Stretch, is_ready};
+use std::ops::Range;
 
 impl<'a, L: Label> Ordered<'a, L> {
     // The live records of a table, if they are in order: one pass over them.
@@ -22,27 +24,41 @@ impl<'a, L: Label> Ordered<'a, L> {
         })
     }
 
+    // How many end at the address or before it, by halving.
+    fn count_ended(&self, address: u64) -> usize
+        ensures { result ≡ ended address self.now.live.now }
+    {
+        self.live.partition_point(|s| s.ends_by(address))
+    }
+
+    // How many start before the address, by halving.
+    fn count_started(&self, address: u64) -> usize
+        ensures { result ≡ started address self.now.live.now }
+    {
+        self.live.partition_point(|s| s.start < address)
+    }
+
+    // Those that hold an address of the span, by their places.
+    pub(crate) fn overlap(&self, span: &Range<u64>) -> Range<usize>
+        requires { span.now.start < span.now.end }
+        ensures from { result.start ≡ ended span.now.start self.now.live.now }
+        ensures to { result.end ≡ started span.now.end self.now.live.now }
+        ensures order { result.start ≤ result.end }
+        ensures within { result.end ≤ length self.now.live.now }
+    {
+        self.count_ended(span.start)..self.count_started(span.end)
+    }
+
     // The stretch that holds the address, or none, by halving.
     pub fn find(&self, address: u64) -> Option<Stretch<L>>
         ensures value { result ≡ found self.now.live.now address }
         ensures finds { Finds self.now.live.now address result }
     {
-        // The records before `low` end at the address or below it, those from `high` on start above it.
-        let mut low = 0;
-        let mut high = self.live.len();
-        while low < high {
-            let middle = low + (high - low) / 2;
-            let s = self.live[middle];
-            if covers(&s, address) {
-                return Some(s);
-            }
-            if s.start <= address {
-                low = middle + 1;
-            } else {
-                high = middle;
-            }
+        // Only the first that does not end by the address can hold it.
+        match self.live.get(self.count_ended(address)) {
+            Some(s) if s.covers(address) => Some(*s),
+            _ => None,
         }
-        None
     }
 }
 

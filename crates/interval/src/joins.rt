@@ -2,22 +2,15 @@
 ghost use Rattle.std.specs.Prelude.{◌≡◌, true, ◌++◌, length, take, drop};
 ghost use Rattle.interval.specs.Stretches.{ready, at};
 ghost use Rattle.interval.specs.Laws.{HoldsMaximal, Joined};
-ghost use Rattle.interval.specs.Edits.{runs_on, join as the_join};
+ghost use Rattle.interval.specs.Edits.{join as the_join};
 ghost use Rattle.interval.specs.Calls.{counted, written, join_answer};
 
 use crate::labels::{Label, SameLabel};
 use crate::refusals::Refusal;
 use crate::stretches::{Stretch, is_ready};
 
-// Whether `y` begins where `x` ends, with the label that `x` has come to.
-pub fn runs_onto<L: SameLabel>(x: &Stretch<L>, y: &Stretch<L>) -> bool
-    ensures { result ≡ runs_on L.Label.advanced L.SameLabel.matches x.now y.now }
-{
-    y.start >= x.start && y.start - x.start == x.length && x.label.advance(x.length).same(&y.label)
-}
-
-// Joins the live records, which are in order.
-fn join_live<L: SameLabel>(table: &mut [Stretch<L>], used: usize) -> usize
+// Joins the live records, which are in order: in place, since the records move within one slice.
+pub(crate) fn join_live<L: SameLabel>(table: &mut [Stretch<L>], used: usize) -> usize
     requires { ready table.old used ≡ true }
     ensures count { result ≡ length (the_join L.Label.advanced L.SameLabel.matches (take used table.old)) }
     ensures after { table.new ≡ the_join L.Label.advanced L.SameLabel.matches (take used table.old) ++ drop result table.old }
@@ -30,7 +23,7 @@ fn join_live<L: SameLabel>(table: &mut [Stretch<L>], used: usize) -> usize
     let mut done = 0;
     for k in 1..used {
         let next = table[k];
-        if runs_onto(&last, &next) {
+        if last.runs_onto(&next) {
             last.length += next.length;
         } else {
             table[done] = last;

@@ -13,7 +13,8 @@ pub trait Label: Copy {
     ghost sum: { (x : Self) (i j : ℕ) → advanced (advanced x i) j ≡ advanced x (i + j) };
 }
 
-// A label with a sameness, which says yes just if the labels are equal.
+// A label with a sameness, which says yes just if the labels are equal. No `Eq`, since its laws let
+// labels that compare equal differ, and then no list of maximal stretches is the only one.
 pub trait SameLabel: Label {
     ghost matches: { Self → Self → Bool };
 

@@ -3,8 +3,9 @@ ghost use Rattle.interval_tests.specs.Offsets.{shown};
 
 use crate::offsets::Offset;
 use interval::labels::Label;
-use interval::stretches::{Stretch, covers};
-use sweep::sources::{Sighting, Source};
+use interval::sightings::Sighting;
+use interval::stretches::Stretch;
+use sweep::sources::Source;
 
 // A source that shows one stretch, and is sighted address by address.
 #[derive(Drop)]
@@ -19,7 +20,7 @@ impl<'a> Source for Row<'a> {
 
     fn sight(&self, address: u64, limit: u64) -> Sighting<Offset> {
         let extent = limit.min(1);
-        if !covers(self.stretch, address) {
+        if !self.stretch.covers(address) {
             return Sighting {
                 label: None,
                 extent,

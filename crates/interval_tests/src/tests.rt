@@ -1,8 +1,11 @@
 use crate::offsets::Offset;
 use crate::rows::Row;
+use interval::edits::{cut, paint, put};
+use interval::find;
+use interval::joins::join;
+use interval::maps::IntervalMap;
 use interval::refusals::Refusal;
 use interval::stretches::{Stretch, TOP};
-use interval::{edits, find, joins};
 use sweep::sweeps;
 
 fn stretch(start: u64, length: u64, value: u64) -> Stretch<Offset> {
@@ -13,37 +16,9 @@ fn stretch(start: u64, length: u64, value: u64) -> Stretch<Offset> {
     }
 }
 
-fn put(table: &mut [Stretch<Offset>], used: usize, new: Stretch<Offset>) -> Result<usize, Refusal> {
-    edits::put(table, used, new)
-}
-
-fn cut(
-    table: &mut [Stretch<Offset>],
-    used: usize,
-    start: u64,
-    length: u64,
-) -> Result<usize, Refusal> {
-    edits::cut(table, used, start, length)
-}
-
-fn paint(
-    table: &mut [Stretch<Offset>],
-    used: usize,
-    new: Stretch<Offset>,
-) -> Result<usize, Refusal> {
-    edits::paint(table, used, new)
-}
-
-fn join(table: &mut [Stretch<Offset>], used: usize) -> Result<usize, Refusal> {
-    joins::join(table, used)
-}
-
 // The start of the stretch that is found, or none.
 fn find(table: &[Stretch<Offset>], used: usize, address: u64) -> Result<Option<u64>, Refusal> {
-    match find::find(table, used, address)? {
-        Some(s) => Ok(Some(s.start)),
-        None => Ok(None),
-    }
+    Ok(find::find(table, used, address)?.map(|s| s.start))
 }
 
 fn sweep(
@@ -134,4 +109,23 @@ fn sweeps_what_is_shown(rt: HostRuntime) {
     let mut none: [Stretch<Offset>; 0] = [];
     assert_eq!(rt; sweep(&stretch(3, 6, 5), 3, &mut none), Ok(0));
     assert_eq!(rt; sweep(&stretch(3, 6, 5), 4, &mut none), Err(Refusal::Short));
+}
+
+#[test]
+fn a_map_holds_its_own_records(rt: HostRuntime) {
+    let mut map: IntervalMap<Offset, 2> = IntervalMap::new(stretch(0, 0, 0));
+    assert_eq!(rt; map.put(stretch(0, 16, 7)), Ok(()));
+    assert_eq!(rt; map.put(stretch(15, 2, 0)), Err(Refusal::Taken));
+    assert_eq!(rt; map.paint(stretch(4, 4, 0)), Err(Refusal::Short));
+    assert_eq!(rt; map.cut(0, 4), Ok(()));
+    assert_eq!(rt; map.put(stretch(0, 4, 7)), Ok(()));
+    assert_eq!(rt; map.len(), 2);
+    map.join();
+    assert_eq!(rt; map.len(), 1);
+    assert_eq!(rt; map.stretches()[0].length, 16);
+    assert_eq!(rt; map.find(15).is_some(), true);
+    assert_eq!(rt; map.find(16).is_some(), false);
+    let full = [stretch(0, 1, 0), stretch(0, 1, 0)];
+    assert_eq!(rt; IntervalMap::from_table(full, 2).is_err(), true);
+    assert_eq!(rt; IntervalMap::from_table(full, 1).is_ok(), true);
 }

@@ -1,7 +1,7 @@
 -- Reading one word after another.
-use Rattle.std.proofs.Common.{◌≡◌, ℕ, Bool, true, false, ◌⊎◌, List, [], ◌∷◌, ◌++◌, sym, refl, ap, ◌∙◌, subst, inl, inr, ⊎_elim, append_assoc, append-nil, arith}
+use Rattle.std.proofs.Common.{◌≡◌, ℕ, ◌⊎◌, List, [], ◌∷◌, ◌++◌, sym, refl, ap, ◌∙◌, subst, inl, inr, ⊎_elim, append_assoc, append-nil, arith}
 use Rattle.std.proofs.lemmas.List.{append_cancel_left}
-use Rattle.lexis.specs.Lang.{Begun, Got, Lost, Join, Step}
+use Rattle.lexis.specs.Lang.{Begun, Got, Lost, Join}
 
 -- of two lists that begin a third, one begins the other
 pub overlap : (w z v y : List ℕ) → w ++ z ≡ v ++ y → ((u : List ℕ) × (w ≡ v ++ u) × (y ≡ u ++ z)) ⊎ ((u : List ℕ) × (v ≡ w ++ u) × (z ≡ u ++ y))
@@ -26,14 +26,6 @@ pub record Some {A : Type 0} (L : List ℕ → A → Type 0) : Type 0 where
   pub word : L text value
 
 module _ {A B : Type 0} (L : List ℕ → A → Type 0) (M : A → List ℕ → B → Type 0) where
-  pub got_then : (x y z : List ℕ) (a : A) (b : B) → Got L x a y → Got (M a) y b z → Got (Join L M) x b z
-  got_then x y z a b g h =
-      record {
-        front = g.front ++ h.front;
-        split = g.split ∙ ap (λ l. g.front ++ l) h.split ∙ sym (append_assoc g.front h.front z);
-        word = record { value = a; left = g.front; right = h.front; whole = refl; first = g.word; second = h.word };
-      }
-
   pub lost_first : (x y : List ℕ) → ((a : A) → Some (M a)) → Lost L x y → Lost (Join L M) x y
   lost_first x y full h =
       record {
@@ -86,15 +78,6 @@ module _ {A B : Type 0} (L : List ℕ → A → Type 0) (M : A → List ℕ → 
             let rest : y ≡ j.right ++ t = append_cancel_left g.front _ _ (grouped ∙ ap (λ l. l ++ (j.right ++ t)) (sym same.0)) in
             h.none b j.right t rest (subst (λ k. M k j.right b) (sym same.1) j.second);
       }
-
-  -- two steps are one
-  pub step_then : (l m n : Bool) (x y z : List ℕ) (a : A) (b : B) → Free L → ((a : A) → Some (M a)) → Step L l x a m y → Step (M a) m y b n z → Step (Join L M) l x b n z
-  step_then true true n x y z a b free full s t = (t.0, t.1 ∙ s.1)
-  step_then true false n x y z a b free full s t = absurd (let e : ◌≡◌ {A = Bool} false true = s.0 in let f : ◌≡◌ {A = ℕ} 0 1 = cc in omega arith)
-  step_then false true true x y z a b free full s t = subst (λ l. Lost (Join L M) x l) (sym t.1) (lost_first x y full s)
-  step_then false true false x y z a b free full s t = absurd (let e : ◌≡◌ {A = Bool} false true = t.0 in let f : ◌≡◌ {A = ℕ} 0 1 = cc in omega arith)
-  step_then false false true x y z a b free full s t = lost_then x y z a free s t
-  step_then false false false x y z a b free full s t = got_then x y z a b s t
 
 -- where no word begins another, the front that stops is no word
 module _ {A : Type 0} (L : List ℕ → A → Type 0) where

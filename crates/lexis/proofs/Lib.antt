@@ -1,6 +1,5 @@
 pub mod Joins
 pub mod Glyphs
-pub mod Cuts
 pub mod Words
 pub mod Picks
 pub mod Steps

@@ -1,30 +1,31 @@
 -- Which of several texts a line begins with; a single text is a set of one.
-use Rattle.std.proofs.Common.{◌≡◌, ℕ, zero, suc, ◌+◌, ◌<◌, ◌≤◌, eqb, ◌⊎◌, List, [], ◌∷◌, ◌++◌, length, get_or, take, drop, Some, None, sym, refl, ap, ◌∙◌, subst, ⊎_elim, append_assoc, append-nil, arith}
+use Rattle.std.proofs.Common.{◌≡◌, ℕ, suc, max, ◌+◌, ◌-◌, ◌<◌, ◌≤◌, cond, eqb, List, [], ◌∷◌, ◌++◌, length, get_or, take, drop, Err, sym, refl, ap, ◌∙◌, subst, ⊎_elim, append_assoc, append-nil, arith}
 use Rattle.std.proofs.lemmas.List.{take-append-drop, length-append, length-take-le, take-take, take_all, get_or_read}
-use Rattle.std.proofs.lemmas.Bool.{eq-eqb, ne_eqb, cond-true, cond-false, cases_eq}
+use Rattle.std.specs.List.{prefix_len, zip}
+use Rattle.std.proofs.lemmas.List.Sums.{common_prefix_len-le}
+use Rattle.std.proofs.lemmas.Bool.{eq-eqb, ne_eqb, cond-true, cond-false, cases_eq, cases_lt}
+use Rattle.lexis.specs.declared.lost.Lost.{Lost as Failed}
 use Rattle.lexis.specs.Lang.{Got, Lost, Literal, Chosen, Vocabulary, agree}
-use Rattle.lexis.specs.Reading.{Picked}
+use Rattle.lexis.specs.Reading.{Reading}
 use Rattle.lexis.proofs.Joins.{Free, overlap, lost_by}
 
 head_same : (x y : ℕ) (xs ys : List ℕ) → x ≡ y → agree (x ∷ xs) (y ∷ ys) ≡ suc (agree xs ys)
-head_same x y xs ys e = cond-true (eqb x y) _ _ (eq-eqb x y e)
+head_same x y xs ys e = cond-true (eqb x y) _ _ (eq-eqb x y e) ∙ omega arith
 
 head_other : (x y : ℕ) (xs ys : List ℕ) → (x ≡ y → ⊥) → agree (x ∷ xs) (y ∷ ys) ≡ 0
 head_other x y xs ys e = cond-false (eqb x y) _ _ (ne_eqb x y e)
 
 agree_left : (xs ys : List ℕ) → agree xs ys ≤ length xs
-agree_left [] ys = omega arith
-agree_left (x ∷ xs) [] = omega arith
-agree_left (x ∷ xs) (y ∷ ys) =
-    let h = agree_left xs ys in
-    ⊎_elim (λ e. omega (arith, head_same x y xs ys e)) (λ e. omega (arith, head_other x y xs ys e)) (cases_eq x y)
+agree_left xs ys = (common_prefix_len-le eqb xs ys).0
 
 pub agree_right : (xs ys : List ℕ) → agree xs ys ≤ length ys
-agree_right [] ys = omega arith
-agree_right (x ∷ xs) [] = omega arith
-agree_right (x ∷ xs) (y ∷ ys) =
-    let h = agree_right xs ys in
-    ⊎_elim (λ e. omega (arith, head_same x y xs ys e)) (λ e. omega (arith, head_other x y xs ys e)) (cases_eq x y)
+agree_right xs ys = (common_prefix_len-le eqb xs ys).1
+
+-- as the pairs that stand at the front
+pub agree_pairs : (xs ys : List ℕ) → prefix_len (λ (p : ℕ × ℕ). eqb p.0 p.1) (zip xs ys) ≡ agree xs ys
+agree_pairs [] ys = refl
+agree_pairs (x ∷ xs) [] = refl
+agree_pairs (x ∷ xs) (y ∷ ys) = ap (λ n. cond (eqb x y) (1 + n) 0) (agree_pairs xs ys)
 
 agree_same : (xs ys : List ℕ) → take (agree xs ys) xs ≡ take (agree xs ys) ys
 agree_same [] ys = refl
@@ -42,18 +43,6 @@ agree_both (c ∷ p) m z = let h = agree_both p m z in omega (arith, head_same c
 
 agree_front : (p m z w x : List ℕ) → p ++ m ≡ w → p ++ z ≡ x → length p ≤ agree w x
 agree_front p m z w x e f = let g : agree (p ++ m) (p ++ z) ≡ agree w x = λ i. agree (e i) (f i) in omega (arith, agree_both p m z)
-
--- a count by which they agree, and then no more
-pub agree_is : (n : ℕ) (xs ys : List ℕ) → n ≤ length xs → n ≤ length ys → take n xs ≡ take n ys → (n < length xs → n < length ys → get_or xs n 0 ≡ get_or ys n 0 → ⊥) → n ≡ agree xs ys
-agree_is zero [] ys h k e f = refl
-agree_is zero (x ∷ xs) [] h k e f = refl
-agree_is zero (x ∷ xs) (y ∷ ys) h k e f = sym (head_other x y xs ys (f (omega arith) (omega arith)))
-agree_is (suc n) [] ys h k e f = absurd (omega arith)
-agree_is (suc n) (x ∷ xs) [] h k e f = absurd (omega arith)
-agree_is (suc n) (x ∷ xs) (y ∷ ys) h k e f =
-    let i : x ≡ y = cc in
-    let t : take n xs ≡ take n ys = cc in
-    ap suc (agree_is n xs ys (omega arith) (omega arith) t (λ a b. f (omega arith) (omega arith))) ∙ sym (head_same x y xs ys i)
 
 module _ {K : Type 0} (word : K → List ℕ) (apart : (a b : K) (u : List ℕ) → word b ≡ word a ++ u → a ≡ b) where
   pub chosen_free : Free (Chosen word)
@@ -115,21 +104,21 @@ module _ {K : Type 0} (word : K → List ℕ) (all : List K) (x : List ℕ) wher
     pub near : (k : K) × (best ≤ agree (word k) x)
     pub short : (j : ℕ) → j < i → (d : K) → Short best (get_or all j d)
 
-  pub passed_more : (i best next n : ℕ) (k : K) → i < length all → k ≡ get_or all i k → n ≡ agree (word k) x → (n ≡ length (word k) → ⊥) → Passed i best → ((best < n) × (next ≡ n)) ⊎ ((n ≤ best) × (next ≡ best)) → Passed (i + 1) next
-  passed_more i best next n k within here e part h way =
+  pub passed_more : (i best next n : ℕ) (k : K) → i < length all → k ≡ get_or all i k → n ≡ agree (word k) x → (n ≡ length (word k) → ⊥) → Passed i best → next ≡ max best n → Passed (i + 1) next
+  passed_more i best next n k within here e part h most =
       record {
-        near = ⊎_elim (λ t. (k, omega arith)) (λ t. (h.near.0, omega (arith, h.near.1))) way;
+        near = ⊎_elim (λ (t : best < n). (k, omega arith)) (λ (t : n ≤ best). (h.near.0, omega (arith, h.near.1))) (cases_lt best n);
         short = λ j l d.
             ⊎_elim
             (λ (s : j ≡ i).
             let same : get_or all j d ≡ k = ap (λ t. get_or all t d) s ∙ sym (get_or_read all i k within here d) in
             let m : (agree (word k) x ≡ length (word k)) → ⊥ = λ f. part (e ∙ f) in
             let g = agree_left (word k) x in
-            subst (Short next) (sym same) (⊎_elim (λ t. omega arith) (λ t. omega arith) way, grind arith))
+            subst (Short next) (sym same) (omega arith, grind arith))
             (λ (s : j ≡ i → ⊥).
             let lt : j < i = grind arith in
             let o = h.short j lt d in
-            (⊎_elim (λ t. omega (arith, o.0)) (λ t. omega (arith, o.0)) way, o.1))
+            (omega (arith, o.0), o.1))
             (cases_eq j i);
       }
 
@@ -137,12 +126,15 @@ module _ {K : Type 0} (word : K → List ℕ) (all : List K) (x : List ℕ) wher
     pub passed_none : Passed 0 0
     passed_none = record { near = (element all set.some, omega arith); short = λ j l d. absurd (omega arith) }
 
-    pub passed_all : (i best : ℕ) → length all ≤ i → Passed i best → Picked word x None best
-    passed_all i best past h =
-        let each : (k : K) → Short best k = λ k. let q = set.whole k in subst (Short best) (q.2 k) (h.short q.0 (omega (arith, q.1)) k) in (
-          omega (arith, h.near.1, agree_right (word h.near.0) x),
-          chosen_lost word set.apart x best h.near.0 h.near.1 (λ k. (each k).0) (λ k. (each k).1),
+    pub passed_all : (col i best : ℕ) (e : Failed) → length all ≤ i → Passed i best → e.column ≡ col + best → Reading (Chosen word) x col (Err e)
+    passed_all col i best e past h at =
+        let each : (k : K) → Short best k = λ k. let q = set.whole k in subst (Short best) (q.2 k) (h.short q.0 (omega (arith, q.1)) k) in
+        let n : best ≡ e.column - col = omega arith in
+        let m : best ≤ length x = omega (arith, h.near.1, agree_right (word h.near.0) x) in (
+          omega arith,
+          omega arith,
+          subst (λ k. Lost (Chosen word) x (drop k x)) n (chosen_lost word set.apart x best h.near.0 h.near.1 (λ k. (each k).0) (λ k. (each k).1)),
         )
 
-    pub passed_one : (k : K) (n : ℕ) → n ≡ agree (word k) x → length (word k) ≤ n → Picked word x (Some k) n
-    passed_one k n e h = (omega (arith, agree_right (word k) x), chosen_got word set.apart x k n e h)
+    pub passed_one : (k : K) (n : ℕ) (y : List ℕ) → n ≡ agree (word k) x → length (word k) ≤ n → y ≡ drop n x → Got (Chosen word) x k y
+    passed_one k n y e h at = subst (Got (Chosen word) x k) (sym at) (chosen_got word set.apart x k n e h)

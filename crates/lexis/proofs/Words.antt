@@ -5,11 +5,12 @@ use Rattle.std.proofs.lemmas.List.{length-append, take-append-drop, drop-append-
 use Rattle.std.proofs.ByRecursion.{All-get_or}
 use Rattle.std.proofs.lemmas.Bool.{cases_eq, both_ways}
 use Rattle.std.proofs.lemmas.Bool.Decides.{nat_tests}
+use Rattle.lexis.specs.declared.lost.Lost.{Lost as Failed}
 use Rattle.lexis.specs.declared.tokens.Divider.{Divider}
 use Rattle.lexis.specs.declared.tokens.Divider.TheVariants.{Open as Opening, Close as Closing, Space as Blank}
 use Rattle.lexis.specs.declared.tokens.Token.{Token}
 use Rattle.lexis.specs.declared.tokens.Token.TheVariants.{Open, Close, Space, Word, End}
-use Rattle.lexis.specs.Lang.{Begun, Got, Lost}
+use Rattle.lexis.specs.Lang.{Begun, Lost}
 use Rattle.lexis.specs.Numeral.{numeral, Number, Extends, Leads}
 use Rattle.lexis.specs.Reading.{Reading}
 use Rattle.lexis.specs.Tokens.{mark, divider, Plain, Parted, Lexed}
@@ -183,21 +184,13 @@ module _ (b most : ℕ) (end : Divider) where
           ends = λ _. other;
         }))
 
-    pub number_ended : 0 < length t → length t ≤ k → (tail : List ℕ) → y ≡ mark end ∷ tail → Got (Number b most end) x v tail
-    number_ended some h tail e =
-        record {
-          front = numeral b v ++ mark end ∷ [];
-          split = cut ∙ (λ i. text_is some h i ++ e i) ∙ sym (append_assoc (numeral b v) (mark end ∷ []) tail);
-          word = record { text = refl; small = leads.small };
-        }
-
--- the column of a line that fails k bytes on
+-- a line that fails k bytes on
 module _ {A : Type 0} (L : List ℕ → A → Type 0) (x : List ℕ) (col : ℕ) where
-  pub stops_here : Lost L x x → Reading L x col (Err col)
-  stops_here l = let e : col - col ≡ 0 = omega arith in (omega arith, omega arith, subst (λ i. Lost L x (drop i x)) (sym e) l)
+  pub stops_here : (e : Failed) → e.column ≡ col → Lost L x x → Reading L x col (Err e)
+  stops_here e at l = let z : e.column - col ≡ 0 = omega arith in (omega arith, omega arith, subst (λ i. Lost L x (drop i x)) (sym z) l)
 
-  pub stops_after : (t y : List ℕ) (at k : ℕ) → at ≡ col → x ≡ t ++ y → k ≤ length t → Lost L x (drop k x) → Reading L x col (Err (at + k))
-  stops_after t y at k e cut h l =
+  pub stops_after : (t y : List ℕ) (k : ℕ) (e : Failed) → e.column ≡ col + k → x ≡ t ++ y → k ≤ length t → Lost L x (drop k x) → Reading L x col (Err e)
+  stops_after t y k e at cut h l =
       let n = ap length cut ∙ length-append t y in
-      let f : k ≡ at + k - col = omega arith in
+      let f : k ≡ e.column - col = omega arith in
       (omega arith, omega arith, subst (λ i. Lost L x (drop i x)) f l)

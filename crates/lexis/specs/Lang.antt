@@ -1,6 +1,6 @@
 -- Languages: which bytes write which values, and what is answered where a word is read from the front of a list.
-use Rattle.std.specs.Prelude.{◌≡◌, ℕ, suc, ◌<◌, Bool, true, false, cond, List, [], ◌∷◌, ◌++◌, length, ◌==◌}
-use Rattle.std.specs.List.{ContainsAt as Has}
+use Rattle.std.specs.Prelude.{◌≡◌, ℕ, ◌<◌, List, [], ◌∷◌, ◌++◌, length, ◌==◌, Ok, Err, Result, Some, None, Option}
+use Rattle.std.specs.List.{ContainsAt as Has, common_prefix_len}
 
 -- some word of L begins with p
 pub record Begun {A : Type 0} (L : List ℕ → A → Type 0) (p : List ℕ) : Type 0 where
@@ -30,6 +30,12 @@ pub record Then {A B : Type 0} (L : List ℕ → A → Type 0) (M : List ℕ →
   pub first : L left p.0
   pub second : M right p.1
 
+-- the text x, and then a word of L
+pub record After {A : Type 0} (x : List ℕ) (L : List ℕ → A → Type 0) (w : List ℕ) (a : A) : Type 0 where
+  pub more : List ℕ
+  pub whole : w ≡ x ++ more
+  pub word : L more a
+
 -- a word of L that writes some a, and then a word of M a
 pub record Join {A B : Type 0} (L : List ℕ → A → Type 0) (M : A → List ℕ → B → Type 0) (w : List ℕ) (b : B) : Type 0 where
   pub value : A
@@ -39,11 +45,11 @@ pub record Join {A B : Type 0} (L : List ℕ → A → Type 0) (M : A → List �
   pub first : L left value
   pub second : M value right b
 
--- one step of a reader that stays where it was lost: from (lost, x) to (lost', y), with the value a
-abbrev pub Step : {A : Type 0} → (List ℕ → A → Type 0) → Bool → List ℕ → A → Bool → List ℕ → Type 0
-Step L true x a m y = (m ≡ true) × (y ≡ x)
-Step L false x a true y = Lost L x y
-Step L false x a false y = Got L x a y
+-- one step from x to y of a reader that stays where it was lost: over a word of L that writes a, or to where x begins no word
+abbrev pub Step : {A E : Type 0} → (List ℕ → A → Type 0) → Option E → List ℕ → Result A E → List ℕ → Type 0
+Step L (Some e) x r y = (r ≡ Err e) × (y ≡ x)
+Step L None x (Ok a) y = Got L x a y
+Step L None x (Err e) y = Lost L x y
 
 -- one text
 abbrev pub Literal : List ℕ → List ℕ → Unit {0} → Type 0
@@ -61,6 +67,4 @@ pub record Vocabulary {K : Type 0} (word : K → List ℕ) (all : List K) : Type
 
 -- how many bytes at the front of two lists agree
 abbrev pub agree : List ℕ → List ℕ → ℕ
-agree [] ys = 0
-agree (x ∷ xs) [] = 0
-agree (x ∷ xs) (y ∷ ys) = cond (x == y) (suc (agree xs ys)) 0
+agree xs ys = common_prefix_len ◌==◌ xs ys

@@ -4,7 +4,7 @@ use Rattle.lexis.specs.declared.line.Line.{Line}
 
 -- the bytes written so far
 abbrev pub shown : Line → List ℕ
-shown l = take l.len l.bytes
+shown l = l.text.items
 
 -- the text x is put after what s shows; of the whole the first 256 bytes are kept
 pub record Adds (s : Line) (x : List ℕ) (t : Line) : Type 0 where

@@ -6,12 +6,5 @@ ghost use Rattle.lexis.specs.Lang.{agree};
 pub(crate) fn common(a: &[u8], b: &[u8]) -> usize
     ensures { result ≡ agree a.now b.now }
 {
-    let mut n = 0;
-    while n < a.len() && n < b.len() {
-        if a[n] != b[n] {
-            return n;
-        }
-        n += 1;
-    }
-    n
+    a.iter().zip(b).take_while(|(x, y)| x == y).count()
 }

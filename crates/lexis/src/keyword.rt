@@ -1,9 +1,10 @@
 // Closed sets of words.
-ghost use Rattle.std.specs.Prelude.{◌≡◌, ℕ, List};
-ghost use Rattle.lexis.specs.Lang.{Vocabulary};
-ghost use Rattle.lexis.specs.Reading.{Picked};
+ghost use Rattle.std.specs.Prelude.{◌≡◌, ℕ, ◌+◌, ◌^◌, ◌<◌, List, length};
+ghost use Rattle.lexis.specs.Lang.{Vocabulary, Chosen};
+ghost use Rattle.lexis.specs.Reading.{Reading};
 
 use crate::fronts::common;
+use crate::lost::Lost;
 
 // A closed set of words, none of which begins another: all its members, and the text of each.
 pub trait Keyword: Copy + 'static {
@@ -12,27 +13,29 @@ pub trait Keyword: Copy + 'static {
     ghost all: { List Self };
 
     fn all() -> &'static [Self]
-        ensures list { result.now ≡ all }
-        ensures lawful { Vocabulary word all };
+        ensures { result.now ≡ all };
 
     fn word(self) -> &'static [u8]
         ensures { result.now ≡ word self };
+
+    ghost lawful: { Vocabulary word all };
 }
 
-// The word of K at the front of a line, if any, and how many bytes of the line begin a word of K.
-pub(crate) fn keyword_at<K: Keyword>(line: &[u8]) -> (Option<K>, usize)
-    ensures { Picked K.Keyword.word line.now result.0 result.1 }
+// The word of K at the front of a line and the rest, or the column at which they fail.
+pub(crate) fn keyword_at<K: Keyword>(line: &[u8], column: usize) -> Result<(K, &[u8]), Lost>
+    requires { column + length line.now < 2 ^ 64 }
+    ensures { Reading (Chosen K.Keyword.word) line.now column result }
 {
     let mut best = 0;
     for k in K::all() {
         let word = k.word();
         let n = common(word, line);
         if n == word.len() {
-            return (Some(*k), n);
+            return Ok((*k, &line[n..]));
         }
-        if n > best {
-            best = n;
-        }
+        best = n.max(best);
     }
-    (None, best)
+    Err(Lost {
+        column: column + best,
+    })
 }

@@ -4,6 +4,7 @@
 mod fronts;
 pub mod keyword;
 pub mod line;
+pub mod lost;
 mod numbers;
 pub mod reader;
 pub mod tokens;

@@ -1,7 +1,10 @@
 // The line being written.
-ghost use Rattle.std.specs.Prelude.{◌≡◌, ◌≤◌, length};
+ghost use Rattle.std.specs.Prelude.{◌≤◌};
+ghost use Rattle.arrayvec.specs.ArrayVec.{array_vec_len};
 
 mod puts;
+
+use arrayvec::ArrayVec;
 
 // How many bytes a line holds.
 pub const CAPACITY: usize = 256;
@@ -9,8 +12,6 @@ pub const CAPACITY: usize = 256;
 // A line that keeps the first CAPACITY bytes put into it.
 #[derive(Drop)]
 pub struct Line {
-    bytes: [u8; CAPACITY],
-    len: usize,
-    ghost whole: { length bytes ≡ 256 },
-    ghost within: { len ≤ 256 },
+    text: ArrayVec<u8, CAPACITY>,
+    ghost within: { array_vec_len text ≤ 256 },
 }

@@ -1,5 +1,8 @@
 // The reader of a line.
-ghost use Rattle.std.specs.Prelude.{◌+◌, ◌^◌, ◌<◌, length};
+ghost use Rattle.std.specs.Prelude.{◌≡◌, ◌+◌, ◌^◌, ◌<◌, length};
+ghost use Rattle.std.specs.Option.{ForSome};
+
+use crate::lost::Lost;
 
 mod items;
 
@@ -8,6 +11,7 @@ mod items;
 pub struct Reader<'a> {
     rest: &'a [u8],
     column: usize,
-    lost: bool,
+    lost: Option<Lost>,
     ghost room: { column + length rest.now < 2 ^ 64 },
+    ghost stays: { ForSome lost (λ e. e.column ≡ column) },
 }

@@ -48,14 +48,7 @@ fn word_len(line: &[u8]) -> usize
     ensures plain { AllByRecursion Plain (take result line.now) }
     ensures parted { Parted (drop result line.now) }
 {
-    let mut n = 0;
-    while n < line.len() {
-        if divides(line[n]) {
-            return n;
-        }
-        n += 1;
-    }
-    n
+    line.iter().position(|b| divides(*b)).unwrap_or(line.len())
 }
 
 // The first piece of a line whose first byte is at `column`, and the rest of the line.

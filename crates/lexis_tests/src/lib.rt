@@ -14,11 +14,7 @@ mod tests {
     fn number(text: &[u8], most: u64) -> Result<u64, usize> {
         let mut reader = Reader::new(text);
         let value = reader.number(most, Divider::Close);
-        if reader.is_lost() {
-            Err(reader.column())
-        } else {
-            Ok(value)
-        }
+        value.map_err(|_| reader.column())
     }
 
     #[test]
@@ -46,13 +42,12 @@ mod tests {
     // The switch in a line, or the column at which the line fails.
     fn switch(text: &[u8]) -> Result<Switch, usize> {
         let mut reader = Reader::new(text);
-        reader.literal(b"(");
+        let _ = reader.literal(b"(");
         let switch = reader.choice::<Switch>();
         if reader.is_lost() {
-            Err(reader.column())
-        } else {
-            Ok(switch)
+            return Err(reader.column());
         }
+        switch.map_err(|lost| lost.column)
     }
 
     #[test]

@@ -1,5 +1,6 @@
 // A keyword for the tests.
 ghost use Rattle.lexis_tests.specs.Switches.{switch_word, switches};
+ghost use Rattle.lexis_tests.specs.SwitchSet.{switch_set};
 
 use lexis::keyword::Keyword;
 
@@ -13,6 +14,8 @@ impl Keyword for Switch {
     ghost word = { switch_word };
 
     ghost all = { switches };
+
+    ghost lawful = { switch_set };
 
     fn all() -> &'static [Switch] {
         &[Switch::On, Switch::Off]

@@ -1,3 +1,3 @@
 pub mod Changing
 pub mod Hearings
-pub mod Steps
+pub mod Searches

@@ -1,7 +1,8 @@
 -- Rising lists of stretches, and one stretch put among them.
-use Rattle.std.specs.Prelude.{◌≡◌, ℕ, suc, ◌^◌, ◌<◌, ◌≤◌, Bool, true, false, ◌&&◌, ◌||◌, ◌⊎◌, List, [], ◌∷◌, length, ◌≢◌, nat_le, nat_lt, refl}
+use Rattle.std.specs.Prelude.{◌≡◌, ℕ, suc, ◌^◌, ◌<◌, ◌≤◌, Bool, true, false, ◌&&◌, ◌⊎◌, List, [], ◌∷◌, length, ◌≢◌, nat_le, nat_lt, refl}
 use Rattle.std.proofs.Common.{sym, ap, ◌∙◌, inl, inr, arith}
 use Rattle.std.proofs.lemmas.Bool.{and_parts, and_from, leb-true, ltb-true, le-leb, lt-ltb, le-ltb, cond-true, cond-false, cond_both, cases_lt, cases_Bool, cases_order}
+use Rattle.std.proofs.Math.Bool.{or_comm}
 use Rattle.std.proofs.lemmas.Bool.Decides.{nat_tests}
 use Rattle.interval.specs.declared.stretches.Stretch.{Stretch}
 use Rattle.interval.specs.Stretches.{stop, rising, lawful}
@@ -88,10 +89,4 @@ module _ {L : Type 0} where
   starts_differ a b p q f e = grind (arith, nat_tests)
 
   pub apart_flip : (a b : Stretch L) → apart a.start (stop a) b ≡ apart b.start (stop b) a
-  apart_flip a b = go (nat_le (stop b) a.start) (nat_le (stop a) b.start)
-    where
-      go : (s t : Bool) → (s || t) ≡ (t || s)
-      go true true = refl
-      go true false = refl
-      go false true = refl
-      go false false = refl
+  apart_flip a b = or_comm (nat_le (stop b) a.start) (nat_le (stop a) b.start)

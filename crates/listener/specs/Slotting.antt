@@ -1,5 +1,5 @@
 -- Laws of ranges in slots.
-use Rattle.std.specs.Prelude.{◌≡◌, ℕ, zero, suc, ◌^◌, ◌<◌, ◌≤◌, Bool, true, false, cond, ◌||◌, ◌⊎◌, List, [], ◌∷◌, length, replicate, is_some, Some, None, Option, ◌≢◌, nat_lt, slice_set, refl}
+use Rattle.std.specs.Prelude.{◌≡◌, ℕ, zero, suc, ◌^◌, ◌<◌, ◌≤◌, Bool, true, false, cond, ◌||◌, ◌⊎◌, List, [], ◌∷◌, length, replicate, is_some, Some, None, Option, nat_lt, slice_set, refl}
 use Rattle.std.proofs.Common.{sym, ap, ◌∙◌, inl, inr, arith}
 use Rattle.std.specs.Option.{option_map}
 use Rattle.std.proofs.lemmas.Bool.{leb-true, ltb-true, and_parts, and_from, cond-true, cond-false, both_ways, cases_Bool}
@@ -15,11 +15,8 @@ use Rattle.listener.specs.Sets.{same_true, listed_put, free_unlisted, without_pu
 abbrev Row : Type 0
 Row = List (Option Range)
 
-none_some : {X : Type 0} (x : X) → None ≢ Some x
-none_some x e = let z : ◌≡◌ {A = ℕ} 0 1 = cc in omega arith
-
 some_suc : (o : Option ℕ) (i : ℕ) → option_map suc o ≡ Some i → (j : ℕ) × (o ≡ Some j) × (i ≡ suc j)
-some_suc None i e = absurd (none_some i e)
+some_suc None i e = absurd (cc)
 some_suc (Some k) i e = (k, refl, cc)
 
 zero_is : (i : ℕ) → Some 0 ≡ Some i → i ≡ 0
@@ -67,15 +64,15 @@ none_lone (suc n) = none_lone n
 -- where no slot is free, each has a range
 pub full : (s : Row) → free_in s ≡ None → length (held_in s) ≡ length s
 full [] f = refl
-full (None ∷ s) f = absurd (none_some 0 (sym f))
+full (None ∷ s) f = absurd (cc)
 full (Some x ∷ s) f = length_put (held_in s) x ∙ ap suc (full s (go (free_in s) f))
   where
     go : (o : Option ℕ) → option_map suc o ≡ None → o ≡ None
     go None e = refl
-    go (Some k) e = absurd (none_some (suc k) (sym e))
+    go (Some k) e = absurd (cc)
 
 pub free_within : (s : Row) (i : ℕ) → free_in s ≡ Some i → (i < length s) × (length (held_in s) < length s)
-free_within [] i f = absurd (none_some i f)
+free_within [] i f = absurd (cc)
 free_within (None ∷ s) i f = (omega (arith, zero_is i f), omega (arith, few_held s))
 free_within (Some x ∷ s) i f =
     let v = some_suc (free_in s) i f in
@@ -91,7 +88,7 @@ module _ (r : Range) (l : lawful r.start r.length ≡ true) where
   met x s m = and_parts (apart r.start (stop r) x) _ (sym (free_put r.start (stop r) (held_in s) x) ∙ m)
 
   pub put_held : (s : Row) (i : ℕ) → lone s ≡ true → free r.start (stop r) (held_in s) ≡ true → free_in s ≡ Some i → held_in (slice_set s i (Some r)) ≡ put (held_in s) r
-  put_held [] i a m f = absurd (none_some i f)
+  put_held [] i a m f = absurd (cc)
   put_held (None ∷ s) i a m f = ap (λ k. held_in (slice_set (None ∷ s) k (Some r))) (zero_is i f)
   put_held (Some x ∷ s) i a m f =
       let v = some_suc (free_in s) i f in
@@ -100,7 +97,7 @@ module _ (r : Range) (l : lawful r.start r.length ≡ true) where
       ap (λ k. held_in (slice_set (Some x ∷ s) k (Some r))) v.2 ∙ ap (λ t. put t x) (put_held s v.0 p.rest o.1 v.1) ∙ put_comm r x (held_in s) (starts_differ r x long p.some o.0)
 
   pub put_lone : (s : Row) (i : ℕ) → lone s ≡ true → free r.start (stop r) (held_in s) ≡ true → free_in s ≡ Some i → lone (slice_set s i (Some r)) ≡ true
-  put_lone [] i a m f = absurd (none_some i f)
+  put_lone [] i a m f = absurd (cc)
   put_lone (None ∷ s) i a m f = ap (λ k. lone (slice_set (None ∷ s) k (Some r))) (zero_is i f) ∙ lone_from r s l m a
   put_lone (Some x ∷ s) i a m f =
       let v = some_suc (free_in s) i f in
@@ -152,7 +149,7 @@ found_slot r x s i f = go (cases_Bool (same_range x r))
 
 slot_within : (r : Range) (s : Row) (i : ℕ) → slot_in s r ≡ Some i → i < length s
 unfolding Later
-slot_within r [] i f = absurd (none_some i f)
+slot_within r [] i f = absurd (cc)
 slot_within r (None ∷ s) i f =
     let v = some_suc (slot_in s r) i f in
     omega (arith, v.2, slot_within r s v.0 v.1)
@@ -164,7 +161,7 @@ slot_within r (Some x ∷ s) i f = go (slot_within r s) (found_slot r x s i f)
 
 slot_alone : (r q : Range) (s : Row) (i : ℕ) → slot_in s r ≡ Some i → slot_in s q ≡ Some i → q ≡ r
 unfolding Later
-slot_alone r q [] i f g = absurd (none_some i f)
+slot_alone r q [] i f g = absurd (cc)
 slot_alone r q (None ∷ s) i f g =
     let v = some_suc (slot_in s r) i f in
     let w = some_suc (slot_in s q) i g in
@@ -186,7 +183,7 @@ seated n s r e = record { sits = listed_slot r s; within = λ i f. omega (arith,
 -- a range is taken out of its slot
 pub clear_held : (r : Range) (s : Row) (i : ℕ) → lone s ≡ true → slot_in s r ≡ Some i → held_in (slice_set s i None) ≡ without (held_in s) r
 unfolding Later
-clear_held r [] i a f = absurd (none_some i f)
+clear_held r [] i a f = absurd (cc)
 clear_held r (None ∷ s) i a f =
     let v = some_suc (slot_in s r) i f in
     ap (λ k. held_in (slice_set (None ∷ s) k None)) v.2 ∙ clear_held r s v.0 a v.1
@@ -198,7 +195,7 @@ clear_held r (Some x ∷ s) i a f = go (lone_parts x s a) (clear_held r s) (foun
 
 pub clear_lone : (r : Range) (s : Row) (i : ℕ) → lone s ≡ true → slot_in s r ≡ Some i → lone (slice_set s i None) ≡ true
 unfolding Later
-clear_lone r [] i a f = absurd (none_some i f)
+clear_lone r [] i a f = absurd (cc)
 clear_lone r (None ∷ s) i a f =
     let v = some_suc (slot_in s r) i f in
     ap (λ k. lone (slice_set (None ∷ s) k None)) v.2 ∙ clear_lone r s v.0 a v.1

@@ -9,7 +9,7 @@ use crate::listener::{Listener, Refused};
 use model::kinds::Kind;
 use model::ranges::Range;
 
-// A choice of kinds.
+// A choice of kinds: a flag for each, since a set of three is no plainer.
 #[derive(Clone, Copy)]
 pub struct Kinds {
     pub ram: bool,

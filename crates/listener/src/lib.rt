@@ -4,6 +4,5 @@
 pub mod kind_filter;
 pub mod listener;
 pub mod range_table;
-mod ranges;
 pub mod slot_table;
-mod slots;
+pub mod slots;

@@ -7,7 +7,7 @@ use model::kinds::Kind;
 use model::ranges::Range;
 
 // An addition or a removal that altered nothing.
-#[derive(Clone, Copy, Debug)]
+#[derive(Clone, Copy, Debug, PartialEq, Eq)]
 pub struct Refused;
 
 // A listener is told of ranges that come and go. It takes those of some kinds, up to its capacity, and

@@ -1,52 +1,31 @@
 // A listener for every kind.
 ghost use Rattle.std.specs.Prelude.{◌≡◌};
 ghost use Rattle.listener.specs.Hearing.{vacant};
-ghost use Rattle.listener.specs.Slots.{table, every_kind};
-ghost use Rattle.listener.specs.Slotting.{slots_kept};
+ghost use Rattle.listener.specs.Slots.{every_kind};
 
-use crate::listener::{Listener, Refused};
-use crate::slots::Slots;
+use crate::listener::Listener;
+use crate::slots::{Slots, TakenKinds};
 use model::kinds::Kind;
-use model::ranges::Range;
 
-// Up to 256 ranges.
-#[derive(Drop)]
-pub struct RangeTable {
-    slots: Slots<256>,
-}
+// Every kind is taken.
+#[derive(Clone, Copy)]
+pub struct EveryKind;
 
-impl RangeTable {
-    pub fn new() -> RangeTable
-        ensures { table every_kind 256 result.slots.slots ≡ vacant every_kind 256 }
-    {
-        RangeTable {
-            slots: Slots::new(),
-        }
-    }
-}
+impl TakenKinds for EveryKind {
+    ghost taken = { every_kind };
 
-impl Listener for RangeTable {
-    ghost hearing = { λ s. table every_kind 256 s.slots.slots };
-
-    ghost kept = { λ s. slots_kept _ _ s.slots.slots s.slots.whole s.slots.apart };
-
-    fn takes(&self, _kind: Kind) -> bool {
+    fn takes(_kind: Kind) -> bool {
         true
     }
+}
 
-    fn capacity(&self) -> usize {
-        self.slots.capacity()
-    }
+// Up to 256 ranges.
+pub type RangeTable = Slots<EveryKind, 256>;
 
-    fn count(&self) -> usize {
-        self.slots.count()
-    }
-
-    fn add(&mut self, range: Range) -> Result<(), Refused> {
-        self.slots.add(range)
-    }
-
-    fn remove(&mut self, range: Range) -> Result<(), Refused> {
-        self.slots.remove(&range)
+impl Slots<EveryKind, 256> {
+    pub fn new() -> RangeTable
+        ensures { ⟦<RangeTable as Listener>⟧.hearing result ≡ vacant every_kind 256 }
+    {
+        Slots::vacant()
     }
 }

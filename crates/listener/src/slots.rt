@@ -1,47 +1,45 @@
-// Slots for ranges, which the tables are made of.
-ghost use Rattle.std.specs.Prelude.{◌≡◌, true, [], length};
+// A listener that holds its ranges in numbered slots.
+ghost use Rattle.std.specs.Prelude.{◌≡◌, Bool, true, length};
 ghost use Rattle.interval.specs.Stretches.{stop};
 ghost use Rattle.interval.specs.Edits.{free};
+ghost use Rattle.model.specs.declared.kinds.Kind.{Kind};
 ghost use Rattle.model.specs.Ranges.{listed};
-ghost use Rattle.listener.specs.Hearing.{admits, added, removed, answered};
-ghost use Rattle.listener.specs.Slots.{held_in, lone, slot_in, free_in, table, every_kind, Seated, Stays};
+ghost use Rattle.listener.specs.Hearing.{admits, added, removed, answered, vacant, SetLaws};
+ghost use Rattle.listener.specs.Slots.{held_in, lone, slot_in, free_in, table, Seated, Stays};
+ghost use Rattle.listener.specs.Slotting.{slots_kept};
 
-use crate::listener::Refused;
-use crate::ranges::{is_apart, is_lawful, is_same};
+use crate::listener::{Listener, Refused};
+use model::kinds::Kind;
 use model::ranges::Range;
+use std::marker::PhantomData;
 
-// N slots, each free or with a range; no two of the ranges overlap.
-#[derive(Drop)]
-pub(crate) struct Slots<const N: usize> {
-    slots: [Option<Range>; N],
-    count: usize,
-    ghost whole: { length slots ≡ N },
-    ghost apart: { lone slots ≡ true },
-    ghost counted: { count ≡ length (held_in slots) },
+// The kinds that a table takes.
+pub trait TakenKinds {
+    ghost taken: { Kind → Bool };
+
+    fn takes(kind: Kind) -> bool
+        ensures { result ≡ taken kind };
 }
 
-impl<const N: usize> Slots<N> {
-    pub(crate) fn new() -> Slots<N>
-        ensures { held_in result.slots ≡ [] }
+// N slots, each free or with a range; no two of the ranges overlap. A range takes a free slot, and
+// stays in it until it is removed.
+#[derive(Drop)]
+pub struct Slots<K, const N: usize> {
+    slots: [Option<Range>; N],
+    kinds: PhantomData<K>,
+    ghost whole: { length slots ≡ N },
+    ghost apart: { lone slots ≡ true },
+}
+
+impl<K: TakenKinds, const N: usize> Slots<K, N> {
+    // A table whose slots are all free.
+    pub(crate) fn vacant() -> Slots<K, N>
+        ensures { table K.taken N result.slots ≡ vacant K.taken N }
     {
         Slots {
             slots: [None; N],
-            count: 0,
+            kinds: PhantomData,
         }
-    }
-
-    // How many slots there are.
-    pub(crate) fn capacity(&self) -> usize
-        ensures { result ≡ N }
-    {
-        N
-    }
-
-    // How many slots have a range.
-    pub(crate) fn count(&self) -> usize
-        ensures { result ≡ length (held_in self.now.slots) }
-    {
-        self.count
     }
 
     // The slot that has the range.
@@ -49,75 +47,78 @@ impl<const N: usize> Slots<N> {
         ensures is { result ≡ slot_in self.now.slots range.now }
         ensures seated { Seated N self.now.slots range.now }
     {
-        for i in 0..N {
-            let slot = self.slots[i];
-            if let Some(x) = slot {
-                if is_same(&x, range) {
-                    return Some(i);
-                }
-            }
-        }
-        None
+        self.slots.iter().position(|slot| *slot == Some(*range))
     }
 
     // The first free slot.
     fn find_free(&self) -> Option<usize>
         ensures { result ≡ free_in self.now.slots }
     {
-        for i in 0..N {
-            if self.slots[i].is_none() {
-                return Some(i);
-            }
-        }
-        None
+        self.slots.iter().position(|slot| slot.is_none())
     }
 
     // Whether the range overlaps none that a slot has.
     fn is_clear(&self, range: &Range) -> bool
         ensures { result ≡ free range.now.start (stop range.now) (held_in self.now.slots) }
     {
-        for i in 0..N {
-            let slot = self.slots[i];
-            if let Some(x) = slot {
-                if !is_apart(range, &x) {
-                    return false;
-                }
-            }
+        self.slots.iter().flatten().all(|held| range.is_apart(held))
+    }
+}
+
+impl<K: TakenKinds, const N: usize> Listener for Slots<K, N> {
+    ghost hearing = { λ s. table K.taken N s.slots };
+
+    ghost kept = { λ s. slots_kept _ _ s.slots s.whole s.apart };
+
+    fn takes(&self, kind: Kind) -> bool {
+        K::takes(kind)
+    }
+
+    fn capacity(&self) -> usize {
+        N
+    }
+
+    fn count(&self) -> usize {
+        self.slots.iter().flatten().count()
+    }
+
+    // No range that is held leaves its slot.
+    fn add(&mut self, range: Range) -> Result<(), Refused>
+        ensures answer { result ≡ answered (admits (table K.taken N self.old.slots) range) }
+        ensures after { table K.taken N self.new.slots ≡ added (table K.taken N self.old.slots) range }
+        ensures stays { Stays self.old.slots self.new.slots }
+    {
+        if !K::takes(range.label.kind) || !range.is_lawful() || !self.is_clear(&range) {
+            return Err(Refused);
         }
+        let free = self.find_free().ok_or(Refused)?;
+        self.slots[free] = Some(range);
+        Ok(())
+    }
+
+    // No other range leaves its slot.
+    fn remove(&mut self, range: Range) -> Result<(), Refused>
+        ensures answer { result ≡ answered (listed (held_in self.old.slots) range) }
+        ensures after { table K.taken N self.new.slots ≡ removed (table K.taken N self.old.slots) range }
+        ensures stays { Stays self.old.slots self.new.slots }
+    {
+        let slot = self.find(&range).ok_or(Refused)?;
+        self.slots[slot] = None;
+        Ok(())
+    }
+
+    // As for every listener; and no range that is held leaves its slot. The trait has this body too, but
+    // can't promise that of every listener.
+    fn would_take(&mut self, range: Range) -> bool
+        ensures answer { result ≡ admits (table K.taken N self.old.slots) range }
+        ensures after { table K.taken N self.new.slots ≡ table K.taken N self.old.slots }
+        ensures set { SetLaws (table K.taken N self.old.slots) range }
+        ensures stays { Stays self.old.slots self.new.slots }
+    {
+        if self.add(range).is_err() {
+            return false;
+        }
+        let _ = self.remove(range);
         true
-    }
-
-    // Puts the range into a free slot.
-    pub(crate) fn add(&mut self, range: Range) -> Result<(), Refused>
-        ensures answer { result ≡ answered (admits (table every_kind N self.old.slots) range) }
-        ensures after { table every_kind N self.new.slots ≡ added (table every_kind N self.old.slots) range }
-        ensures stays { Stays self.old.slots self.new.slots }
-    {
-        if !is_lawful(&range) {
-            return Err(Refused);
-        }
-        if !self.is_clear(&range) {
-            return Err(Refused);
-        }
-        let Some(i) = self.find_free() else {
-            return Err(Refused);
-        };
-        self.slots[i] = Some(range);
-        self.count += 1;
-        Ok(())
-    }
-
-    // Takes the range out of its slot.
-    pub(crate) fn remove(&mut self, range: &Range) -> Result<(), Refused>
-        ensures answer { result ≡ answered (listed (held_in self.old.slots) range.now) }
-        ensures after { table every_kind N self.new.slots ≡ removed (table every_kind N self.old.slots) range.now }
-        ensures stays { Stays self.old.slots self.new.slots }
-    {
-        let Some(i) = self.find(range) else {
-            return Err(Refused);
-        };
-        self.slots[i] = None;
-        self.count -= 1;
-        Ok(())
     }
 }

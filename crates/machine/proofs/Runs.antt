@@ -14,7 +14,8 @@ use Rattle.edits.specs.Rows.{bad_size}
 use Rattle.flat.specs.Maps.{map_of}
 use Rattle.diff.specs.declared.counts.Counts.{Counts}
 use Rattle.diff.specs.ChangeLists.{changes, counts as counts_of}
-use Rattle.diff.specs.Laws.{Fewest, and_then, carry_out, range_of, of_kinds, entries_of_kinds}
+use Rattle.diff.specs.Laws.{Fewest, and_then, carry_out, of_kinds, entries_of_kinds}
+use Rattle.model.specs.Changes.{range_of}
 use Rattle.diff.proofs.Carrying.{carry_append}
 use Rattle.diff.proofs.Fewer.{fewest}
 use Rattle.diff.proofs.Members.{rising_distinct}

@@ -61,7 +61,8 @@ pub enum Fault {
 }
 
 impl Fault {
-    // The number of the cause, from 1 to 21. With the place it tells the fault.
+    // The number of the cause, from 1 to 21, by which the printed form names it. With the place it
+    // tells the fault.
     pub fn number(self) -> u8
         ensures row { result ≡ (row self).number }
         ensures only { OnlyFault self }
@@ -97,15 +98,30 @@ impl Fault {
         ensures row { result ≡ (row self).layer }
         ensures number { result ≡ layer_by_number (row self).number }
     {
-        match self.number() {
-            0..=13 => Layer::Tree,
-            14..=17 => Layer::Map,
-            18..=20 => Layer::Access,
-            _ => Layer::Script,
+        match self {
+            Fault::DraftStands
+            | Fault::NoDraft
+            | Fault::BadSize
+            | Fault::BadOffset
+            | Fault::NoRegion(_)
+            | Fault::Defined
+            | Fault::Root
+            | Fault::NoContainer
+            | Fault::BadDevice(_)
+            | Fault::InUse
+            | Fault::Unattached
+            | Fault::Cycle
+            | Fault::TooDeep => Layer::Tree,
+            Fault::MapFull | Fault::ListenerFull | Fault::ListShort | Fault::ListenerInUse => {
+                Layer::Map
+            }
+            Fault::BadLength(_) | Fault::NoPlace(_) | Fault::NoWrites(_) => Layer::Access,
+            Fault::NoForm(_) => Layer::Script,
         }
     }
 
-    // The place that the fault holds, and 0 where it holds none.
+    // The place that the fault holds. The printed form has a number there for every fault, so that is
+    // 0 where the fault holds none.
     pub fn place(self) -> u64
         ensures { result ≡ (row self).place }
     {

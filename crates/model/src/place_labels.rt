@@ -28,16 +28,13 @@ impl Label for Place {
     }
 }
 
+// The sameness is the derived equality; `exact` adds that two places it calls equal are one.
 impl SameLabel for Place {
     ghost matches = { same_place };
 
     ghost exact = { SamePlace.places };
 
     fn same(&self, other: &Place) -> bool {
-        self.leaf == other.leaf
-            && self.device == other.device
-            && self.offset == other.offset
-            && self.kind == other.kind
-            && self.writes == other.writes
+        *self == *other
     }
 }

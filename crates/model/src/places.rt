@@ -2,7 +2,8 @@
 use crate::kinds::Kind;
 
 // A byte of a device, as the leaf `leaf` shows it: the byte `offset` of the device `device`, whose
-// bytes are of the kind `kind`, and whether a write is let through.
+// bytes are of the kind `kind`, and whether a write is let through: a yes or no in the printed form
+// too.
 #[derive(Clone, Copy, Debug, PartialEq, Eq)]
 pub struct Place {
     pub leaf: u8,

@@ -23,6 +23,7 @@ impl Label for Touch {
     }
 }
 
+// The sameness is the derived equality; `exact` adds that two marks it calls equal are one.
 impl SameLabel for Touch {
     ghost matches = { same_touch };
 

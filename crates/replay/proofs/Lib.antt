@@ -1,4 +1,1 @@
-pub mod Adding
-pub mod Listing
-pub mod Positions
 pub mod Removing

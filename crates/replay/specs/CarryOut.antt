@@ -1,5 +1,5 @@
 -- Carrying out a change list on a set of ranges, which is written as a list rising by start.
-use Rattle.std.specs.Prelude.{◌≡◌, ℕ, ◌+◌, ◌<◌, true, false, cond, ◌&&◌, List, [], ◌∷◌, ◌++◌, length, take, drop, Some, None, Ok, Err, Option, Result, nat_le}
+use Rattle.std.specs.Prelude.{◌≡◌, ℕ, ◌+◌, cond, ◌&&◌, List, [], ◌∷◌, ◌++◌, length, take, drop, Some, None, Ok, Err, Option, Result, nat_le}
 use Rattle.interval.specs.declared.refusals.Refusal.{Refusal}
 use Rattle.interval.specs.declared.refusals.Refusal.TheVariants as refusal
 use Rattle.interval.specs.Stretches.{ready, lawful, stop}
@@ -59,12 +59,7 @@ abbrev pub written : List Range → Result (List Range) Failure → List Range
 written table (Ok held) = held ++ drop (length held) table
 written table (Err e) = table
 
--- the first n of the records now are the ranges, or the failure is answered
-abbrev pub Carried : Result (List Range) Failure → List Range → List Range → Result ℕ Failure → Type 0
-Carried goal was now (Ok n) = (goal ≡ Ok (take n now)) × (ready now n ≡ true)
-Carried goal was now (Err e) = goal ≡ Err e
-
--- where a range stands in a list
-abbrev pub Positioned : List Range → Range → Option ℕ → Type 0
-Positioned xs r None = listed xs r ≡ false
-Positioned xs r (Some i) = (i < length xs) × (listed xs r ≡ true) × (without xs r ≡ take i xs ++ drop (i + 1) xs)
+-- the ranges are now the answer's, or the failure is answered
+abbrev pub Carried : Result (List Range) Failure → List Range → Result (Unit {0}) Failure → Type 0
+Carried goal now (Ok u) = goal ≡ Ok now
+Carried goal now (Err e) = goal ≡ Err e

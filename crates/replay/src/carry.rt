@@ -1,40 +1,36 @@
 // Carrying out a change list on the ranges that a caller's table holds.
-ghost use Rattle.std.specs.Prelude.{◌≡◌, ◌≤◌, true, ◌++◌, length, take, drop, IfOk};
+ghost use Rattle.std.specs.Prelude.{◌≡◌, true, IfOk, None, Some, position as first_position};
+ghost use Rattle.std.specs.Option.{MatchOption};
+ghost use Rattle.interval.specs.Maps.{live};
 ghost use Rattle.interval.specs.Stretches.{ready};
-ghost use Rattle.replay.specs.CarryOut.{Carried, Positioned, removed, added, fit, blame, carried, counted, written, carry_answer};
+ghost use Rattle.model.specs.Ranges.{same_range};
+ghost use Rattle.replay.specs.CarryOut.{Carried, removed, fit, blame, carried, carry_from, counted, written, carry_answer};
 
 use crate::failures::Failure;
-use interval::edits::put;
+use interval::maps::IntervalMap;
 use interval::refusals::Refusal;
-use interval::stretches::{is_ready, is_same};
 use model::changes::Change;
+use model::places::Place;
+pub use model::ranges::CAPACITY;
 use model::ranges::Range;
 
-// A map has at most so many ranges.
-pub const CAPACITY: usize = 256;
+type Held = IntervalMap<Place, CAPACITY>;
 
-// Where the range stands among the live ones.
-fn position(live: &[Range], range: &Range) -> Option<usize>
-    ensures { Positioned live.now range.now result }
+// Where the range stands among the held ones.
+fn position(held: &Held, range: &Range) -> Option<usize>
+    ensures { result ≡ first_position (λ stretch. same_range stretch range.now) (live held.now) }
 {
-    for (i, held) in live.iter().enumerate() {
-        if is_same(held, range) {
-            return Some(i);
-        }
-    }
-    None
+    held.stretches().iter().position(|stretch| stretch == range)
 }
 
-// Takes a held range out.
-fn remove(table: &mut [Range], used: usize, range: &Range, entry: usize) -> Result<usize, Failure>
-    requires { ready table.old used ≡ true }
-    ensures { Carried (fit (length table.old) entry (removed (take used table.old) range.now)) table.old table.new result }
+// Takes a held range out, and answers none where it is not held.
+fn remove(held: &mut Held, range: &Range) -> Option<()>
+    ensures { MatchOption result (removed (live held.old) range.now ≡ None) (λ _. removed (live held.old) range.now ≡ Some (live held.new)) }
 {
-    let Some(at) = position(&table[0..used], range) else {
-        return Err(Failure::Entry(entry));
-    };
-    table.copy_within(at + 1..used, at);
-    Ok(used - 1)
+    let at = position(held, range)?;
+    held.records.copy_within(at + 1..held.used, at);
+    held.used -= 1;
+    Some(())
 }
 
 // What a refused put says of the entry.
@@ -49,53 +45,31 @@ fn failure_of(refusal: Refusal, entry: usize) -> Failure
     }
 }
 
-// Puts in a range that overlaps no held one.
-fn add(table: &mut [Range], used: usize, range: Range, entry: usize) -> Result<usize, Failure>
-    requires { ready table.old used ≡ true }
-    ensures { Carried (fit (length table.old) entry (added (take used table.old) range)) table.old table.new result }
-{
-    match put(table, used, range) {
-        Ok(live) => Ok(live),
-        Err(refusal) => Err(failure_of(refusal, entry)),
-    }
-}
-
 // Carries out one entry.
-fn carry(table: &mut [Range], used: usize, change: Change, entry: usize) -> Result<usize, Failure>
-    requires { ready table.old used ≡ true }
-    ensures { Carried (fit (length table.old) entry (carried change (take used table.old))) table.old table.new result }
+fn carry(held: &mut Held, change: Change, entry: usize) -> Result<(), Failure>
+    ensures { Carried (fit CAPACITY entry (carried change (live held.old))) (live held.new) result }
 {
     match change {
-        Change::Removal(range) => remove(table, used, &range, entry),
-        Change::Addition(range) => add(table, used, range, entry),
+        Change::Removal(range) => remove(held, &range).ok_or(Failure::Entry(entry)),
+        Change::Addition(range) => held
+            .put(range)
+            .map_err(|refusal| failure_of(refusal, entry)),
     }
 }
 
-// Carries out the entries in turn on a table that may be spoilt.
-fn carry_all(table: &mut [Range], used: usize, changes: &[Change]) -> Result<usize, Failure>
-    ensures { Carried (carry_answer table.old used changes.now) table.old table.new result }
+// Carries out the entries in turn; a failure names its entry by the place in the list.
+fn carry_all(held: &mut Held, changes: &[Change]) -> Result<(), Failure>
+    ensures { Carried (carry_from CAPACITY 0 changes.now (live held.old)) (live held.new) result }
 {
-    if !is_ready(table, used) {
-        return Err(Failure::Disorder);
-    }
-    let mut live = used;
     for (i, change) in changes.iter().enumerate() {
-        live = carry(table, live, *change, i)?;
+        carry(held, *change, i)?;
     }
-    Ok(live)
-}
-
-// Copies the first records.
-fn copy_front(from: &[Range], count: usize, to: &mut [Range])
-    requires within { count ≤ length from.now }
-    requires room { count ≤ length to.old }
-    ensures { to.new ≡ take count from.now ++ drop count to.old }
-{
-    to[0..count].copy_from_slice(&from[0..count]);
+    Ok(())
 }
 
 // Carries out a change list on the first `used` records of the table, entry by entry, and answers
-// how many ranges it then holds. A list that fails leaves the table as it was.
+// how many ranges it then holds. A list that fails leaves the table as it was. The table is lent by
+// the caller, who says how many of its records count.
 pub fn carry_out(
     table: &mut [Range; CAPACITY],
     used: usize,
@@ -105,8 +79,9 @@ pub fn carry_out(
     ensures after { table.new ≡ written table.old (carry_answer table.old used changes.now) }
     ensures order { IfOk result (λ n. ready table.new n ≡ true) }
 {
-    let mut work = *table;
-    let live = carry_all(&mut work, used, changes)?;
-    copy_front(&work, live, table);
-    Ok(live)
+    let mut held = Held::from_table(*table, used).map_err(|_| Failure::Disorder)?;
+    carry_all(&mut held, changes)?;
+    let live = held.stretches();
+    table[..live.len()].copy_from_slice(live);
+    Ok(live.len())
 }

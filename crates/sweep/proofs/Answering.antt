@@ -1,10 +1,7 @@
 -- What a sweep answers, and what stands in the table then.
-use Rattle.std.proofs.Common.{◌≡◌, ℕ, ◌^◌, ◌<◌, ◌≤◌, Bool, List, ◌++◌, length, drop, Ok, Err, Option, sym, ap, ◌∙◌, arith}
-use Rattle.interval.specs.declared.refusals.Refusal.TheVariants.{Short}
+use Rattle.std.proofs.Common.{◌≡◌, ℕ, ◌^◌, ◌<◌, ◌≤◌, Bool, List, ◌++◌, length, drop, Option, sym, ap, ◌∙◌, arith}
 use Rattle.interval.specs.declared.stretches.Stretch.{Stretch}
-use Rattle.interval.specs.Calls.{fitted, counted, written}
 use Rattle.interval.specs.Laws.{Maximal, HoldsMaximal}
-use Rattle.interval.proofs.Fits.{fits, too_long}
 use Rattle.interval.proofs.Only.{only}
 use Rattle.interval.proofs.Standing.{holds_maximal}
 use Rattle.sweep.specs.Laws.{below}
@@ -17,19 +14,10 @@ module _ {L : Type 0} (adv : L → ℕ → L) (same : L → L → Bool) (laws : 
   xs = stretches adv same f 0 size
 
   module _ (now : List (Stretch L)) (n : ℕ) (room : length xs ≤ length table) (count : n ≡ length xs) (after : now ≡ xs ++ drop n table) where
-    pub swept_count : Ok n ≡ counted (fitted table xs)
-    swept_count = ap Ok count ∙ sym (ap counted (fits table xs room))
-
-    pub swept_after : now ≡ written table (fitted table xs)
-    swept_after = after ∙ ap (λ k. xs ++ drop k table) count ∙ sym (ap (written table) (fits table xs room))
-
     pub swept_stands : HoldsMaximal adv same (below size f) table now n
     swept_stands = holds_maximal adv same laws.zero laws.sum laws.exact (below size f) table xs now n room (maximal adv same laws f size top) count after
 
   module _ (over : length table < length xs) where
-    pub refused_short : fitted table xs ≡ Err Short
-    refused_short = too_long table xs over
-
     -- whatever maximal list there is, it is this one
     pub refused_for_all : (ys : List (Stretch L)) → Maximal adv same (below size f) ys → length table < length ys
     refused_for_all ys m =

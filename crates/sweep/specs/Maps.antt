@@ -5,7 +5,6 @@ use Rattle.interval.specs.declared.refusals.Refusal.TheVariants.{High}
 use Rattle.interval.specs.declared.stretches.Stretch.{Stretch}
 use Rattle.interval.specs.Calls.{fitted}
 use Rattle.interval.specs.Edits.{runs_on, merged}
-use Rattle.sweep.specs.declared.walks.Walk.{Walk}
 
 module _ {L : Type 0} (advanced : L → ℕ → L) (same : L → L → Bool) where
   -- a stretch in front of those above it, one with the first of them where it runs on
@@ -36,6 +35,6 @@ module _ {L : Type 0} (advanced : L → ℕ → L) (same : L → L → Bool) whe
   placed None xs = xs
   placed (Some s) xs = before s xs
 
-  -- what a walk up to `size` still has to give: the stretch at hand, with what is shown from its address on
-  unfoldable pub to_come : (ℕ → Option L) → ℕ → Walk L → List (Stretch L)
-  to_come shows size walk = placed walk.last (stretches shows walk.address (size - walk.address))
+  -- what a walk up to `size` still has to give: the stretch at hand, with what is shown from the address on
+  unfoldable pub to_come : (ℕ → Option L) → ℕ → ℕ → Option (Stretch L) → List (Stretch L)
+  to_come shows size address last = placed last (stretches shows address (size - address))

@@ -1,7 +1,7 @@
 -- What a sighting has to say.
 use Rattle.std.specs.Prelude.{◌≡◌, ℕ, ◌+◌, ◌<◌, ◌≤◌, Option}
 use Rattle.std.specs.Option.{option_map}
-use Rattle.sweep.specs.declared.sources.Sighting.{Sighting}
+use Rattle.interval.specs.declared.sightings.Sighting.{Sighting}
 
 -- from the address on the labels run on from the one that is sighted, or there is none, for `extent` addresses: at most `limit`, and one at least if that is not 0
 pub record Sees {L : Type 0} (advanced : L → ℕ → L) (shows : ℕ → Option L) (address limit : ℕ) (s : Sighting L) : Type 0 where

@@ -3,13 +3,7 @@ ghost use Rattle.std.specs.Prelude.{ℕ, Option};
 ghost use Rattle.sweep.specs.Sights.{Sees};
 
 use interval::labels::{Label, SameLabel};
-
-// What is shown at an address, and for how many addresses from there on it stays none or runs on.
-#[derive(Clone, Copy)]
-pub struct Sighting<L> {
-    pub label: Option<L>,
-    pub extent: u64,
-}
+use interval::sightings::Sighting;
 
 // What shows a label or none at each address.
 pub trait Source {

@@ -5,7 +5,7 @@ ghost use Rattle.sweep.specs.Laws.{Swept};
 ghost use Rattle.sweep.specs.Maps.{stretches, sweep_answer};
 
 use crate::sources::Source;
-use crate::walks::{Walk, step};
+use crate::walks::Walk;
 use interval::labels::{Label, SameLabel};
 use interval::refusals::Refusal;
 use interval::stretches::{Stretch, TOP};
@@ -14,21 +14,7 @@ use interval::stretches::{Stretch, TOP};
 fn fits<S: Source>(source: &S, size: u64, room: usize) -> bool
     ensures { result ≡ nat_le (length (stretches S.Shown.Label.advanced S.Shown.SameLabel.matches (S.Source.shows source.now) 0 size)) room }
 {
-    let mut walk = Walk {
-        address: 0,
-        last: None,
-    };
-    let mut done = 0;
-    while walk.address < size {
-        if step(&mut walk, source, size).is_none() {
-            continue;
-        }
-        if done == room {
-            return false;
-        }
-        done += 1;
-    }
-    walk.last.is_none() || done < room
+    Walk::new(source, size).nth(room).is_none()
 }
 
 // Writes the stretches of what is shown below `size`, for which there is room, and answers how many they are.
@@ -37,26 +23,16 @@ fn fill<S: Source>(source: &S, size: u64, table: &mut [Stretch<S::Shown>]) -> us
     ensures count { result ≡ length (stretches S.Shown.Label.advanced S.Shown.SameLabel.matches (S.Source.shows source.now) 0 size) }
     ensures after { table.new ≡ stretches S.Shown.Label.advanced S.Shown.SameLabel.matches (S.Source.shows source.now) 0 size ++ drop result table.old }
 {
-    let mut walk = Walk {
-        address: 0,
-        last: None,
-    };
-    let mut done = 0;
-    while walk.address < size {
-        let Some(s) = step(&mut walk, source, size) else {
-            continue;
-        };
-        table[done] = s;
-        done += 1;
+    // The count is the answer; and a proof loses what a loop writes through `iter_mut` beside another iterator.
+    let mut count = 0;
+    for s in Walk::new(source, size) {
+        table[count] = s;
+        count += 1;
     }
-    let Some(s) = walk.last else {
-        return done;
-    };
-    table[done] = s;
-    done + 1
+    count
 }
 
-// A sweep of a size that is not too high.
+// A sweep of a size that is not too high. Each pass begins a walk of its own, since it uses it up.
 fn sweep_checked<S: Source>(
     source: &S,
     size: u64,

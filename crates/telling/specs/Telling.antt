@@ -4,7 +4,8 @@ use Rattle.model.specs.declared.changes.Change.{Change}
 use Rattle.model.specs.declared.changes.Change.TheVariants.{Removal, Addition}
 use Rattle.model.specs.Ranges.{Range, listed}
 use Rattle.listener.specs.Hearing.{Hearing, with_held, admits, added, removed}
-use Rattle.diff.specs.Laws.{range_of, of_kinds, ToldByKind}
+use Rattle.model.specs.Changes.{range_of}
+use Rattle.diff.specs.Laws.{of_kinds, ToldByKind}
 
 -- the entry is of a kind that is taken
 abbrev pub concerns : Hearing → Change → Bool

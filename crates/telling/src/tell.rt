@@ -4,25 +4,21 @@ ghost use Rattle.diff.specs.Laws.{of_kinds};
 ghost use Rattle.telling.specs.Telling.{told_one, told_all, FollowsMaps};
 
 use listener::listener::Listener;
-use model::changes::Change;
+use model::changes::{Action, Change};
 use model::ranges::Range;
 
 // Tells a listener one entry, if it takes its kind.
 fn tell_one<L: Listener>(listener: &mut L, change: Change)
     ensures { L.Listener.hearing listener.new ≡ told_one (L.Listener.hearing listener.old) change }
 {
-    match change {
-        Change::Removal(range) => {
-            if listener.takes(range.label.kind) {
-                let _ = listener.remove(range);
-            }
-        }
-        Change::Addition(range) => {
-            if listener.takes(range.label.kind) {
-                let _ = listener.add(range);
-            }
-        }
+    let range = change.range();
+    if !listener.takes(range.label.kind) {
+        return;
     }
+    let _ = match change.action() {
+        Action::Removal => listener.remove(range),
+        Action::Addition => listener.add(range),
+    };
 }
 
 // Tells a listener the entries of the kinds it takes, in their order. If the list leads from one map to
@@ -40,11 +36,8 @@ pub fn tell<L: Listener>(listener: &mut L, list: &[Change])
 pub fn count_taken<L: Listener>(listener: &L, ranges: &[Range]) -> usize
     ensures { result ≡ length (of_kinds (L.Listener.hearing listener.now).kinds ranges.now) }
 {
-    let mut count = 0;
-    for range in ranges {
-        if listener.takes(range.label.kind) {
-            count += 1;
-        }
-    }
-    count
+    ranges
+        .iter()
+        .filter(|range| listener.takes(range.label.kind))
+        .count()
 }

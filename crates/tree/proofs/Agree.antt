@@ -6,7 +6,7 @@ use Rattle.tree.specs.declared.regions.Body.{Body}
 use Rattle.tree.specs.declared.regions.Body.TheVariants.{Container, Leaf, Alias}
 use Rattle.tree.specs.declared.regions.Region.{Region}
 use Rattle.tree.specs.declared.regions.Attachment.{Attachment}
-use Rattle.tree.specs.declared.sightings.Sighting.{Sighting}
+use Rattle.interval.specs.declared.sightings.Sighting.{Sighting}
 use Rattle.tree.specs.Model.{Model, region_at, under, subregions}
 use Rattle.tree.specs.Search.{look, first_of, search}
 use Rattle.tree.specs.Finds.{Open, Finds, Tries, undefined_region, switched_off, beyond, leaf, alias, container, exhausted, before, found, missed}
@@ -112,7 +112,7 @@ module _ (t : Model) (law : (r s n : ℕ) → Path t r n s → n ≤ 8) where
   agrees n r a m o more = (λ d. found_looks d n (short n r more), λ e. subst (Finds t r a m) e (look_finds t n r a m (short n r more)))
 
   -- what holds of the function at the addresses of a sighting holds of the relation
-  pub ruled : (a : ℕ) (s : Sighting) → ((i : ℕ) → i < s.extent → search t (a + i) ≡ onward s i) → Ruled t a s
+  pub ruled : (a : ℕ) (s : Sighting Place) → ((i : ℕ) → i < s.extent → search t (a + i) ≡ onward s i) → Ruled t a s
   unfolding search
   ruled a s same = record {
     finds = λ i lt. (agrees 9 0 (a + i) false _ (omega arith)).1 (same i lt);

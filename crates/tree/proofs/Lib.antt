@@ -1,4 +1,4 @@
-mod Bounded
+pub mod Orders
 pub mod RootAlone
 pub mod Steps
 pub mod Agree

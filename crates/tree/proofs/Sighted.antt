@@ -1,8 +1,9 @@
 -- What a search over a stretch of addresses sees, step by step.
-use Rattle.std.proofs.Common.{◌≡◌, ℕ, ◌+◌, ◌-◌, ◌%◌, ◌^◌, ◌<◌, ◌≤◌, min, Bool, true, false, not, ◌||◌, eqb, ◌⊎◌, List, [], ◌∷◌, length, get_or, take, drop, pos, is_some as option_is_some, Some, None, Option, sym, refl, ap, ◌∙◌, subst, inl, inr, ⊎_elim, mod-eq_of_lt, arith, length-take}
+use Rattle.std.proofs.Common.{◌≡◌, ℕ, ◌+◌, ◌-◌, ◌%◌, ◌^◌, ◌<◌, ◌≤◌, min, Bool, true, false, ◌||◌, eqb, List, ◌∷◌, length, get_or, drop, is_some as option_is_some, Some, None, Option, sym, refl, ap, ◌∙◌, subst, ⊎_elim, mod-eq_of_lt, arith}
 use Rattle.std.specs.Option.{option_map}
-use Rattle.std.proofs.lemmas.List.{drop_more, drop_all, get_or-take}
-use Rattle.std.proofs.lemmas.Bool.{true≢false, false≢true, cases_eq, cases_lt, cond-true, cond-false, eq-eqb, ne_eqb, not-true}
+use Rattle.std.proofs.lemmas.List.{drop_more}
+use Rattle.std.proofs.lemmas.Bool.{true≢false, false≢true, cases_eq, cases_lt, cond-true, cond-false, eq-eqb, ne_eqb}
+use Rattle.std.proofs.lemmas.Option.{none-some}
 use Rattle.model.specs.declared.kinds.Kind.{Kind}
 use Rattle.model.specs.declared.places.Place.{Place}
 use Rattle.model.specs.Places.{moved, moved_offset}
@@ -10,17 +11,15 @@ use Rattle.tree.specs.declared.regions.Body.{Body}
 use Rattle.tree.specs.declared.regions.Body.TheVariants.{Container, Leaf, Alias}
 use Rattle.tree.specs.declared.regions.Region.{Region}
 use Rattle.tree.specs.declared.regions.Attachment.{Attachment}
-use Rattle.tree.specs.declared.sightings.Sighting.{Sighting}
+use Rattle.interval.specs.declared.sightings.Sighting.{Sighting}
 use Rattle.tree.specs.Model.{Model, region_at, under, subregions}
 use Rattle.tree.specs.Search.{Searcher, leaf_place, look, in_body, first_of, or_else}
 use Rattle.tree.specs.Sights.{Sees, SeesIn, SeesUnder, onward, nothing, Borders, ends, through, among, BordersUnder, begins, inside, later}
-use Rattle.tree.proofs.Steps.{in_undefined, in_off, in_beyond, in_open, first_before, first_here, look_step}
+use Rattle.tree.proofs.Steps.{in_open, first_before, first_here, look_step}
 
-none≢some : (p : Place) → None ≡ Some p → ⊥
-none≢some p e = let z : ◌≡◌ {A = ℕ} 0 1 = cc in omega arith
-
-pub sees_nothing : (f : ℕ → Option Place) (B : ℕ → Type 0) (limit : ℕ) → ((i : ℕ) → f i ≡ None) → Sees f B limit (nothing limit)
-sees_nothing f B limit h = record { within = omega arith; some = λ p. p; same = λ i lt. h i; until = λ lt. absurd (omega arith); fits = λ p e. absurd (none≢some p e) }
+pub sees_nothing : (f : ℕ → Option Place) (B : ℕ → Type 0) (limit : ℕ) (s : Sighting Place) → s ≡ nothing limit → ((i : ℕ) → f i ≡ None) → Sees f B limit s
+sees_nothing f B limit s e h =
+    subst (Sees f B limit) (sym e) (record { within = omega arith; some = λ p. p; same = λ i lt. h i; until = λ lt. absurd (omega arith); fits = λ p e. absurd (none-some p e) })
 
 -- an offset that stays below 2^64 does not wrap
 offset_moved : (a i : ℕ) → a + i < 2 ^ 64 → a + i ≡ moved_offset a i
@@ -29,19 +28,10 @@ offset_moved a i fits = ⊎_elim
     (λ ne. sym (mod-eq_of_lt fits) ∙ sym (cond-false (eqb i 0) a ((a + i) % 2 ^ 64) (ne_eqb i 0 ne)))
     (cases_eq i 0)
 
--- a region's addresses from a on
-module _ (n : ℕ) (t : Model) (r a : ℕ) (m : Bool) (limit : ℕ) (more : 0 < n) where
-  pub sees_undefined : region_at t r ≡ None → SeesIn n t r a m limit (nothing limit)
-  sees_undefined e = sees_nothing _ _ limit (λ i. look_step n t r (a + i) m more ∙ in_undefined (look (n - 1) t) t _ r (a + i) m e)
-
-  pub sees_shut : (g : Region) → region_at t r ≡ Some g → (not g.on ≡ true) ⊎ ((not g.on ≡ false) × (g.size ≤ a)) → SeesIn n t r a m limit (nothing limit)
-  sees_shut g e (inl off) = sees_nothing _ _ limit (λ i. look_step n t r (a + i) m more ∙ in_off (look (n - 1) t) t _ g r (a + i) m e (not-true _ off))
-  sees_shut g e (inr past) = sees_nothing _ _ limit (λ i. look_step n t r (a + i) m more ∙ in_beyond (look (n - 1) t) t _ g r (a + i) m e (omega arith))
-
--- the same for a region that is switched on and has the address a; `short` is what is left of the limit up to its end
+-- the addresses from a on of a region that is switched on and has the address a; `short` is what is left of the limit up to its end
 module _ (n : ℕ) (t : Model) (r a : ℕ) (m : Bool) (limit : ℕ) (more : 0 < n) (g : Region) (short : ℕ) (e : region_at t r ≡ Some g) (on : g.on ≡ true) (has : a < g.size) (cut : short ≡ min limit (g.size - a)) where
   -- B says where something begins or ends in the region's body
-  sees_body : (b : Body) (B : ℕ → Type 0) (s : Sighting) → g.body ≡ b → ((i : ℕ) → B i → Borders t r a i) → Sees (λ i. in_body (look (n - 1) t) t b r (a + i) (m || g.protected)) B short s → SeesIn n t r a m limit s
+  sees_body : (b : Body) (B : ℕ → Type 0) (s : Sighting Place) → g.body ≡ b → ((i : ℕ) → B i → Borders t r a i) → Sees (λ i. in_body (look (n - 1) t) t b r (a + i) (m || g.protected)) B short s → SeesIn n t r a m limit s
   sees_body b B s is lift h = record {
     within = omega (arith, h.within);
     some = λ p. h.some (omega arith);
@@ -50,7 +40,7 @@ module _ (n : ℕ) (t : Model) (r a : ℕ) (m : Bool) (limit : ℕ) (more : 0 < 
     fits = h.fits;
   }
 
-  pub sees_leaf : (d : ℕ) (k : Kind) (p : Place) → g.body ≡ Leaf d k → g.size ≤ 2 ^ 40 → p ≡ leaf_place r d k a (m || g.protected) → SeesIn n t r a m limit (record { place = Some p; extent = short })
+  pub sees_leaf : (d : ℕ) (k : Kind) (p : Place) → g.body ≡ Leaf d k → g.size ≤ 2 ^ 40 → p ≡ leaf_place r d k a (m || g.protected) → SeesIn n t r a m limit (record { label = Some p; extent = short })
   sees_leaf d k p is small place = sees_body (Leaf d k) (Borders t r a) _ is (λ i b. b) (record {
     within = omega arith;
     some = λ q. q;
@@ -59,7 +49,7 @@ module _ (n : ℕ) (t : Model) (r a : ℕ) (m : Bool) (limit : ℕ) (more : 0 < 
     fits = λ q found. let at : q.offset ≡ a = cc in omega arith;
   })
 
-  pub sees_alias : (q f : ℕ) (s : Sighting) → g.body ≡ Alias q f → SeesIn (n - 1) t q (a + f) (m || g.protected) short s → SeesIn n t r a m limit s
+  pub sees_alias : (q f : ℕ) (s : Sighting Place) → g.body ≡ Alias q f → SeesIn (n - 1) t q (a + f) (m || g.protected) short s → SeesIn n t r a m limit s
   sees_alias q f s is h = sees_body (Alias q f) (Borders t q (a + f)) s is (λ i b. through g q f e is b) (record {
     within = h.within;
     some = h.some;
@@ -68,7 +58,7 @@ module _ (n : ℕ) (t : Model) (r a : ℕ) (m : Bool) (limit : ℕ) (more : 0 < 
     fits = h.fits;
   })
 
-  pub sees_container : (s : Sighting) → g.body ≡ Container → SeesUnder (n - 1) t (subregions t r) a (m || g.protected) short s → SeesIn n t r a m limit s
+  pub sees_container : (s : Sighting Place) → g.body ≡ Container → SeesUnder (n - 1) t (subregions t r) a (m || g.protected) short s → SeesIn n t r a m limit s
   sees_container s is = sees_body Container (BordersUnder t (subregions t r) a) s is (λ i b. among b)
 
 -- Of the subregions `all`, `rest` are still to be tried: those before have no place in the first `limit` addresses from a on.
@@ -78,12 +68,6 @@ pub record Untried (t : Model) (down : Searcher) (all rest : List Attachment) (a
   pub same : (i : ℕ) → i < limit → first_of down all (a + i) m ≡ first_of down rest (a + i) m
   pub until : limit < start → BordersUnder t all a limit
   pub part : (i : ℕ) → BordersUnder t rest a i → BordersUnder t all a i
-
-untried_none : (t : Model) (down : Searcher) (all : List Attachment) (a : ℕ) (m : Bool) (start limit : ℕ) → Untried t down all [] a m start limit → Sees (λ i. first_of down all (a + i) m) (BordersUnder t all a) start (nothing limit)
-untried_none t down all a m start limit h = record { within = h.within; some = h.some; same = h.same; until = h.until; fits = λ p e. absurd (none≢some p e) }
-
-under_other : (r : ℕ) (c : Attachment) (cs : List Attachment) → (c.parent ≡ r → ⊥) → under r (c ∷ cs) ≡ under r cs
-under_other r c cs ne = cond-false _ _ _ (ne_eqb c.parent r ne)
 
 under_same : (r : ℕ) (c : Attachment) (cs : List Attachment) → c.parent ≡ r → under r (c ∷ cs) ≡ c ∷ under r cs
 under_same r c cs e = cond-true _ _ _ (eq-eqb c.parent r e)
@@ -101,18 +85,18 @@ module _ (t : Model) (down : Searcher) (all : List Attachment) (c : Attachment) 
     part = λ i b. h.part i (later b);
   }
 
-  here : (s : Sighting) → c.offset ≤ a → Sees (λ i. down c.child ((a - c.offset) + i) m) (Borders t c.child (a - c.offset)) limit s → (i : ℕ) → i < s.extent → first_of down all (a + i) m ≡ or_else (onward s i) (first_of down rest (a + i) m)
+  here : (s : Sighting Place) → c.offset ≤ a → Sees (λ i. down c.child ((a - c.offset) + i) m) (Borders t c.child (a - c.offset)) limit s → (i : ℕ) → i < s.extent → first_of down all (a + i) m ≡ or_else (onward s i) (first_of down rest (a + i) m)
   here s le sees i l =
       let shift : (a + i) - c.offset ≡ (a - c.offset) + i = omega arith in
       h.same i (omega (arith, sees.within)) ∙ first_here down c rest (a + i) m _ (omega arith) (ap (λ x. down c.child x m) shift ∙ sees.same i l)
 
-  stop : (s : Sighting) → c.offset ≤ a → Sees (λ i. down c.child ((a - c.offset) + i) m) (Borders t c.child (a - c.offset)) limit s → s.extent < start → BordersUnder t all a s.extent
+  stop : (s : Sighting Place) → c.offset ≤ a → Sees (λ i. down c.child ((a - c.offset) + i) m) (Borders t c.child (a - c.offset)) limit s → s.extent < start → BordersUnder t all a s.extent
   stop s le sees lt = ⊎_elim
       (λ l. h.part _ (inside le (sees.until l)))
       (λ l. let e : s.extent ≡ limit = omega (arith, sees.within) in subst (BordersUnder t all a) (sym e) (h.until (omega arith)))
       (cases_lt s.extent limit)
 
-  untried_missed : (s : Sighting) → c.offset ≤ a → Sees (λ i. down c.child ((a - c.offset) + i) m) (Borders t c.child (a - c.offset)) limit s → s.place ≡ None → Untried t down all rest a m start s.extent
+  untried_missed : (s : Sighting Place) → c.offset ≤ a → Sees (λ i. down c.child ((a - c.offset) + i) m) (Borders t c.child (a - c.offset)) limit s → s.label ≡ None → Untried t down all rest a m start s.extent
   untried_missed s le sees e = record {
     within = omega (arith, h.within, sees.within);
     some = λ p. sees.some (h.some p);
@@ -121,7 +105,7 @@ module _ (t : Model) (down : Searcher) (all : List Attachment) (c : Attachment) 
     part = λ i b. h.part i (later b);
   }
 
-  untried_found : (s : Sighting) (p : Place) → c.offset ≤ a → Sees (λ i. down c.child ((a - c.offset) + i) m) (Borders t c.child (a - c.offset)) limit s → s.place ≡ Some p → Sees (λ i. first_of down all (a + i) m) (BordersUnder t all a) start s
+  untried_found : (s : Sighting Place) (p : Place) → c.offset ≤ a → Sees (λ i. down c.child ((a - c.offset) + i) m) (Borders t c.child (a - c.offset)) limit s → s.label ≡ Some p → Sees (λ i. first_of down all (a + i) m) (BordersUnder t all a) start s
   untried_found s p le sees e = record {
     within = omega (arith, h.within, sees.within);
     some = λ q. sees.some (h.some q);
@@ -138,39 +122,23 @@ is_some : (o : Option Place) → true ≡ option_is_some o → (p : Place) × (o
 is_some None e = absurd (true≢false e)
 is_some (Some p) e = (p, refl)
 
--- what a read of an attachment past the end would give
-abbrev pub blank : Attachment
-blank = record { child = 0; parent = 0; offset = 0; priority = pos 0 }
+-- one turn of the loop over the attachments: entry i of all of them
+module _ (t : Model) (down : Searcher) (xs : List Attachment) (r i : ℕ) (d : Attachment) (a : ℕ) (m : Bool) (start limit : ℕ) (h : Untried t down (under r xs) (under r (drop i xs)) a m start limit) where
+  ours : i < length xs → (get_or xs i d).parent ≡ r → Untried t down (under r xs) (get_or xs i d ∷ under r (drop (i + 1) xs)) a m start limit
+  ours on e = subst (λ rest. Untried t down (under r xs) rest a m start limit) (ap (under r) (drop_more xs i d on) ∙ under_same r _ _ e) h
 
--- one turn of the loop over the attachments: entry i of the first n
-module _ (t : Model) (down : Searcher) (xs : List Attachment) (n r i : ℕ) (d : Attachment) (a : ℕ) (m : Bool) (start limit : ℕ) (fits : n ≤ length xs) (h : Untried t down (under r (take n xs)) (under r (drop i (take n xs))) a m start limit) where
-  ended : n ≤ i → drop i (take n xs) ≡ []
-  ended past = drop_all i (take n xs) (simp length-take (omega arith))
-
-  pub turns_end : n ≤ i → Sees (λ j. first_of down (under r (take n xs)) (a + j) m) (BordersUnder t (under r (take n xs)) a) start (nothing limit)
-  turns_end past = untried_none t down _ a m start limit (rw (ended past) at h)
-
-  next : i < n → drop i (take n xs) ≡ get_or xs i d ∷ drop (i + 1) (take n xs)
-  next on = drop_more (take n xs) i d (simp length-take (omega arith)) ∙ ap (λ c. c ∷ drop (i + 1) (take n xs)) (get_or-take n xs i d on)
-
-  pub turn_other : i < n → ((get_or xs i d).parent ≡ r → ⊥) → Untried t down (under r (take n xs)) (under r (drop (i + 1) (take n xs))) a m start limit
-  turn_other on ne = subst (λ rest. Untried t down (under r (take n xs)) rest a m start limit) (ap (under r) (next on) ∙ under_other r _ _ ne) h
-
-  ours : i < n → (get_or xs i d).parent ≡ r → Untried t down (under r (take n xs)) (get_or xs i d ∷ under r (drop (i + 1) (take n xs))) a m start limit
-  ours on e = subst (λ rest. Untried t down (under r (take n xs)) rest a m start limit) (ap (under r) (next on) ∙ under_same r _ _ e) h
-
-  pub turn_before : i < n → (get_or xs i d).parent ≡ r → a < (get_or xs i d).offset → Untried t down (under r (take n xs)) (under r (drop (i + 1) (take n xs))) a m start (min limit ((get_or xs i d).offset - a))
+  pub turn_before : i < length xs → (get_or xs i d).parent ≡ r → a < (get_or xs i d).offset → Untried t down (under r xs) (under r (drop (i + 1) xs)) a m start (min limit ((get_or xs i d).offset - a))
   turn_before on e = untried_before t down _ _ _ a m start limit (ours on e)
 
-  pub turn_missed : (s : Sighting) → i < n → (get_or xs i d).parent ≡ r → (get_or xs i d).offset ≤ a → Sees (λ j. down (get_or xs i d).child ((a - (get_or xs i d).offset) + j) m) (Borders t (get_or xs i d).child (a - (get_or xs i d).offset)) limit s → false ≡ option_is_some s.place → Untried t down (under r (take n xs)) (under r (drop (i + 1) (take n xs))) a m start s.extent
+  pub turn_missed : (s : Sighting Place) → i < length xs → (get_or xs i d).parent ≡ r → (get_or xs i d).offset ≤ a → Sees (λ j. down (get_or xs i d).child ((a - (get_or xs i d).offset) + j) m) (Borders t (get_or xs i d).child (a - (get_or xs i d).offset)) limit s → false ≡ option_is_some s.label → Untried t down (under r xs) (under r (drop (i + 1) xs)) a m start s.extent
   turn_missed s on e le sees none = untried_missed t down _ _ _ a m start limit (ours on e) s le sees (is_none _ none)
 
-  pub turn_found : (s : Sighting) → i < n → (get_or xs i d).parent ≡ r → (get_or xs i d).offset ≤ a → Sees (λ j. down (get_or xs i d).child ((a - (get_or xs i d).offset) + j) m) (Borders t (get_or xs i d).child (a - (get_or xs i d).offset)) limit s → true ≡ option_is_some s.place → Sees (λ j. first_of down (under r (take n xs)) (a + j) m) (BordersUnder t (under r (take n xs)) a) start s
+  pub turn_found : (s : Sighting Place) → i < length xs → (get_or xs i d).parent ≡ r → (get_or xs i d).offset ≤ a → Sees (λ j. down (get_or xs i d).child ((a - (get_or xs i d).offset) + j) m) (Borders t (get_or xs i d).child (a - (get_or xs i d).offset)) limit s → true ≡ option_is_some s.label → Sees (λ j. first_of down (under r xs) (a + j) m) (BordersUnder t (under r xs) a) start s
   turn_found s on e le sees some = let p = is_some _ some in untried_found t down _ _ _ a m start limit (ours on e) s p.0 le sees p.1
 
 -- a sighting's place is what is found at its first address
-pub sees_first : (f : ℕ → Option Place) (B : ℕ → Type 0) (limit : ℕ) (s : Sighting) → 0 < limit → Sees f B limit s → s.place ≡ f 0
-sees_first f B limit s lt h = unmoved s.place ∙ sym (h.same 0 (h.some lt))
+pub sees_first : (f : ℕ → Option Place) (B : ℕ → Type 0) (limit : ℕ) (s : Sighting Place) → 0 < limit → Sees f B limit s → s.label ≡ f 0
+sees_first f B limit s lt h = unmoved s.label ∙ sym (h.same 0 (h.some lt))
   where
     unmoved : (o : Option Place) → o ≡ option_map (λ p. moved p 0) o
     unmoved None = refl

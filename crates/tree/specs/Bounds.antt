@@ -1,5 +1,6 @@
 -- The bounds of the numbers in a tree.
 use Rattle.std.specs.Prelude.{◌^◌, Bool, true, ◌&&◌, List, [], ◌∷◌, Some, None, Option, nat_le, nat_lt}
+use Rattle.std.specs.List.{list_all}
 use Rattle.tree.specs.declared.regions.Body.{Body}
 use Rattle.tree.specs.declared.regions.Body.TheVariants.{Container, Leaf, Alias}
 use Rattle.tree.specs.declared.regions.Region.{Region}
@@ -17,8 +18,7 @@ bounded_region None = true
 bounded_region (Some g) = nat_le 1 g.size && (nat_le g.size (2 ^ 40) && bounded_body g.body)
 
 abbrev pub bounded_regions : List (Option Region) → Bool
-bounded_regions [] = true
-bounded_regions (g ∷ gs) = bounded_region g && bounded_regions gs
+bounded_regions gs = list_all bounded_region gs
 
 -- the root is nobody's child, and an offset is at most 2^40
 abbrev pub bounded_attachments : List Attachment → Bool

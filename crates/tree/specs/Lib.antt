@@ -1,6 +1,7 @@
 pub mod Model
 pub mod Bounds
 pub mod Order
+pub mod Listed
 pub mod Search
 pub mod Finds
 pub mod Paths

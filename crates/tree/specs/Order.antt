@@ -1,11 +1,23 @@
 -- The search order: higher priority first, among equals the later attached or moved first.
-use Rattle.std.specs.Prelude.{ℕ, Bool, true, false, cond, not, ◌&&◌, ◌||◌, List, [], ◌∷◌, ◌==◌, int_lt}
+use Rattle.std.specs.Prelude.{ℕ, Bool, true, cond, not, ◌&&◌, List, [], ◌∷◌, filter, find, Option, ◌==◌, int_lt}
+use Rattle.std.specs.List.{list_any}
 use Rattle.tree.specs.declared.regions.Attachment.{Attachment}
 
 -- region n is among the children
 abbrev pub has_child : ℕ → List Attachment → Bool
-has_child n [] = false
-has_child n (c ∷ cs) = c.child == n || has_child n cs
+has_child n cs = list_any (λ c. c.child == n) cs
+
+-- something is attached to region n
+abbrev pub has_children : List Attachment → ℕ → Bool
+has_children cs n = list_any (λ c. c.parent == n) cs
+
+-- the attachment of region n, if it has one
+abbrev pub attachment_of : ℕ → List Attachment → Option Attachment
+attachment_of n cs = find (λ c. c.child == n) cs
+
+-- all attachments but that of region n
+abbrev pub without_child : ℕ → List Attachment → List Attachment
+without_child n cs = filter (λ c. not (c.child == n)) cs
 
 -- no region is attached twice
 abbrev pub once : List Attachment → Bool

@@ -1,10 +1,10 @@
 // The tree of regions, and the search in it.
 #![tactic(auto)]
 
+pub mod order;
 pub mod probes;
 pub mod queries;
 pub mod regions;
 pub mod roots;
-pub mod sightings;
 pub mod table;
 pub mod tree;

@@ -6,106 +6,132 @@ ghost use Rattle.tree.specs.Search.{leaf_place, root_size, search};
 ghost use Rattle.tree.specs.Sights.{Agrees, Ruled, SeesAt, SeesIn, SeesUnder, nothing};
 
 use crate::regions::Body;
-use crate::sightings::Sighting;
 use crate::tree::Tree;
+use interval::sightings::Sighting;
 use model::kinds::Kind;
 use model::places::Place;
 
 // No path has more than 8 edges, so a search goes through at most 9 regions.
 const DEPTH: u8 = 9;
 
-// The place at an offset of a leaf, under a protect mark.
-fn place_in_leaf(leaf: u8, device: u16, kind: Kind, offset: u64, mark: bool) -> Place
-    ensures { result ≡ leaf_place leaf device kind offset mark }
+// No place for as long as the limit goes.
+fn nothing(limit: u64) -> Sighting<Place>
+    ensures { result ≡ nothing limit }
 {
-    let writes = match kind {
-        Kind::Rom => false,
-        Kind::Ram | Kind::Reg => !mark,
-    };
-    Place {
-        leaf,
-        device,
-        offset,
-        kind,
-        writes,
+    Sighting {
+        label: None,
+        extent: limit,
+    }
+}
+
+// What a search asks of a region: what stands at an address in it, whether a region above it has the
+// protect mark, and for how many addresses on the answer is to hold.
+#[derive(Clone, Copy)]
+struct Probe {
+    address: u64,
+    mark: bool,
+    limit: u64,
+}
+
+impl Probe {
+    // The place in a leaf.
+    fn place_in_leaf(&self, leaf: u8, device: u16, kind: Kind) -> Place
+        ensures { result ≡ leaf_place leaf device kind self.now.address self.now.mark }
+    {
+        let writes = match kind {
+            Kind::Rom => false,
+            Kind::Ram | Kind::Reg => !self.mark,
+        };
+        Place {
+            leaf,
+            device,
+            offset: self.address,
+            kind,
+            writes,
+        }
     }
 }
 
 // The search in a region, through at most `fuel` regions one below the other.
 #[cycle(seek_seek_under)]
-fn seek(tree: &Tree, region: u8, address: u64, mark: bool, limit: u64, fuel: u8) -> Sighting
-    ensures { SeesIn fuel (model_of tree.now.table) region address mark limit result }
+fn seek(tree: &Tree, number: u8, probe: Probe, fuel: u8) -> Sighting<Place>
+    ensures { SeesIn fuel (model_of tree.now.table) number probe.address probe.mark probe.limit result }
 {
-    let nothing = Sighting {
-        place: None,
-        extent: limit,
-    };
     if fuel == 0 {
-        return nothing;
+        return nothing(probe.limit);
     }
-    let Some(found) = tree.region(region as u64) else {
-        return nothing;
+    let Some(region) = tree.region(u64::from(number)) else {
+        return nothing(probe.limit);
     };
-    if !found.on || address >= found.size {
-        return nothing;
+    if !region.on || probe.address >= region.size {
+        return nothing(probe.limit);
     }
-    let mark = mark | found.protected;
-    let limit = limit.min(found.size - address);
-    match found.body {
+    let inside = Probe {
+        mark: probe.mark | region.protected,
+        limit: probe.limit.min(region.size - probe.address),
+        ..probe
+    };
+    match region.body {
         Body::Leaf { device, kind } => {
-            let place = place_in_leaf(region, device, kind, address, mark);
+            let place = inside.place_in_leaf(number, device, kind);
             Sighting {
-                place: Some(place),
-                extent: limit,
+                label: Some(place),
+                extent: inside.limit,
             }
         }
-        Body::Alias { target, from } => seek(tree, target, address + from, mark, limit, fuel - 1),
-        Body::Container => seek_under(tree, region, address, mark, limit, fuel - 1),
+        Body::Alias { target, from } => {
+            let address = probe.address + from;
+            seek(tree, target, Probe { address, ..inside }, fuel - 1)
+        }
+        Body::Container => seek_under(tree, number, inside, fuel - 1),
     }
 }
 
 // The same among the subregions of a container.
 #[cycle(seek_seek_under)]
-fn seek_under(tree: &Tree, parent: u8, address: u64, mark: bool, limit: u64, fuel: u8) -> Sighting
-    ensures { SeesUnder fuel (model_of tree.now.table) (subregions (model_of tree.now.table) parent) address mark limit result }
+fn seek_under(tree: &Tree, parent: u8, probe: Probe, fuel: u8) -> Sighting<Place>
+    ensures { SeesUnder fuel (model_of tree.now.table) (subregions (model_of tree.now.table) parent) probe.address probe.mark probe.limit result }
 {
-    let mut limit = limit;
-    for i in 0..tree.table.attached {
-        let c = tree.table.order[i];
-        if c.parent != parent {
+    let mut limit = probe.limit;
+    for attachment in tree.table.order.attachments() {
+        if attachment.parent != parent {
             continue;
         }
-        if address < c.offset {
-            limit = limit.min(c.offset - address);
+        if probe.address < attachment.offset {
+            limit = limit.min(attachment.offset - probe.address);
             continue;
         }
-        let seen = seek(tree, c.child, address - c.offset, mark, limit, fuel);
-        if seen.place.is_some() {
+        let inside = Probe {
+            address: probe.address - attachment.offset,
+            limit,
+            ..probe
+        };
+        let seen = seek(tree, attachment.child, inside, fuel);
+        if seen.label.is_some() {
             return seen;
         }
         limit = seen.extent;
     }
-    Sighting {
-        place: None,
-        extent: limit,
-    }
+    nothing(limit)
 }
 
 impl Tree {
     // The search for an address, with for how many addresses on, up to `limit`, it finds nothing or
     // the place runs on. From the size of the root on there is nothing.
-    pub fn probe(&self, address: u64, limit: u64) -> Sighting
+    pub fn probe(&self, address: u64, limit: u64) -> Sighting<Place>
         ensures sees { SeesAt (model_of self.now.table) address limit result }
         ensures ruled { Ruled (model_of self.now.table) address result }
         ensures beyond { root_size (model_of self.now.table) ≤ address → result ≡ nothing limit }
     {
         if address >= self.root_size() {
-            return Sighting {
-                place: None,
-                extent: limit,
-            };
+            return nothing(limit);
         }
-        seek(self, 0, address, false, limit, DEPTH)
+        let probe = Probe {
+            address,
+            mark: false,
+            limit,
+        };
+        seek(self, 0, probe, DEPTH)
     }
 
     // The place of a guest address, if it has one.
@@ -114,6 +140,6 @@ impl Tree {
         ensures finds { Finds (model_of self.now.table) 0 address false result }
         ensures agrees { Agrees (model_of self.now.table) }
     {
-        self.probe(address, 1).place
+        self.probe(address, 1).label
     }
 }

@@ -1,4 +1,7 @@
 // Regions of a guest address space, and how one lies in another.
+ghost use Rattle.std.specs.Prelude.{◌≡◌};
+ghost use Rattle.tree.specs.Model.{fresh, target_of};
+
 use model::kinds::Kind;
 
 // What a region shows.
@@ -12,12 +15,37 @@ pub enum Body {
     Alias { target: u8, from: u64 },
 }
 
+// Whether it is on, and whether it has the protect mark, do not depend on its body or on one another.
 #[derive(Clone, Copy, Debug, PartialEq, Eq)]
 pub struct Region {
     pub body: Body,
     pub size: u64,
     pub on: bool,
     pub protected: bool,
+}
+
+impl Region {
+    // A region as it is made: switched on, and not protected.
+    pub fn new(body: Body, size: u64) -> Region
+        ensures { result ≡ fresh body size }
+    {
+        Region {
+            body,
+            size,
+            on: true,
+            protected: false,
+        }
+    }
+
+    // The region that an alias shows.
+    pub fn target(&self) -> Option<u8>
+        ensures { result ≡ target_of self.now.body }
+    {
+        match self.body {
+            Body::Alias { target, .. } => Some(target),
+            Body::Container | Body::Leaf { .. } => None,
+        }
+    }
 }
 
 // The region `child` lies at `offset` in the container `parent`.

@@ -1,12 +1,18 @@
 // The plain data of a tree.
-use crate::regions::{Attachment, Region};
+ghost use Rattle.std.specs.Prelude.{◌≡◌, true, length};
+ghost use Rattle.tree.specs.Bounds.{bounded_regions, bounded_attachments};
+ghost use Rattle.tree.specs.Listed.{listed};
 
-// The regions by their numbers, and the attachments of all parents in one search order: higher
-// priority first, among equals the later attached or moved first. Of `order` only the first
-// `attached` entries count.
+use crate::order::SearchOrder;
+use crate::regions::Region;
+
+// The regions by their numbers, and how they are attached. A caller chooses the numbers, so the regions
+// lie in an array, with none under a number that is free.
 #[derive(Clone, Copy)]
 pub struct Table {
     pub regions: [Option<Region>; 64],
-    pub order: [Attachment; 63],
-    pub attached: usize,
+    pub order: SearchOrder,
+    ghost numbered: { length regions ≡ 64 },
+    ghost sizes: { bounded_regions regions ≡ true },
+    ghost offsets: { bounded_attachments (listed order) ≡ true },
 }

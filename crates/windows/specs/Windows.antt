@@ -18,6 +18,7 @@ made n b size t = record { regions = slice_set t.regions n (Some (fresh b size))
 abbrev pub attached : (child parent offset : ℕ) (priority : ℤ) → Model → Model
 attached c p o i t = record { regions = t.regions; attachments = inserted (record { child = c; parent = p; offset = o; priority = i }) t.attachments }
 
+-- without the first attachment of the child n
 abbrev pub without : ℕ → List Attachment → List Attachment
 without n [] = []
 without n (c ∷ cs) = cond (c.child == n) cs (c ∷ without n cs)

@@ -46,7 +46,7 @@ fn alias(number: u64, from: u64) -> Edit {
 fn at(leaf: u8, offset: u64) -> Option<Place> {
     Some(Place {
         leaf,
-        device: leaf as u16,
+        device: u16::from(leaf),
         offset,
         kind: Kind::Ram,
         writes: true,

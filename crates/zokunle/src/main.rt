@@ -1,13 +1,11 @@
 // Reads a change list from standard input, carries it out from the empty map, and shows what it did.
 #![tactic(auto)]
 
-use anyhow::anyhow;
+use anyhow::{Context, Result};
 use changes::read::read_changes;
 use changes::write::write_changes;
-use model::changes::Change;
-use model::kinds::Kind;
-use model::places::Place;
-use model::ranges::Range;
+use model::changes::{Action, Change};
+use model::ranges::UNUSED;
 use replay::carry::{CAPACITY, carry_out};
 use replay::failures::Failure;
 use std::io::{Read, Write};
@@ -20,38 +18,23 @@ const RECORDS: usize = 512;
 // No change line is longer.
 const LINE: usize = 256;
 
-// What the records hold that are not filled yet.
-const NOWHERE: Range = Range {
-    start: 0,
-    length: 0,
-    label: Place {
-        leaf: 0,
-        device: 0,
-        offset: 0,
-        kind: Kind::Ram,
-        writes: false,
-    },
-};
-
-fn show(rt: &HostRuntime, change: Change) -> anyhow::Result<()> {
+fn show(rt: &HostRuntime, change: Change) -> Result<()> {
     let mut line = [0u8; LINE];
-    let Some(length) = write_changes(&[change], &mut line) else {
-        return Err(anyhow!("a change that cannot be written"));
-    };
-    if length > LINE {
+    let length = write_changes(&[change], &mut line).context("a change that cannot be written")?;
+    let Some(text) = line.get(..length) else {
         return Ok(());
-    }
-    rt.stdout().write_all(&line[0..length])?;
+    };
+    rt.stdout().write_all(text)?;
     Ok(())
 }
 
-fn show_map(rt: &HostRuntime, changes: &[Change]) -> anyhow::Result<()> {
-    let mut map = [NOWHERE; CAPACITY];
+fn show_map(rt: &HostRuntime, changes: &[Change]) -> Result<()> {
+    let mut map = [UNUSED; CAPACITY];
     match carry_out(&mut map, 0, changes) {
         Ok(count) => {
             println!(rt; "carried out from the empty map, ranges: {count:x}")?;
             for range in map.iter().take(count) {
-                show(rt, Change::Addition(*range))?;
+                show(rt, Action::Addition.entry(*range))?;
             }
         }
         Err(Failure::Entry(entry)) => println!(rt; "change {entry:x} cannot be carried out")?,
@@ -61,25 +44,24 @@ fn show_map(rt: &HostRuntime, changes: &[Change]) -> anyhow::Result<()> {
     Ok(())
 }
 
-fn run(rt: &HostRuntime) -> anyhow::Result<()> {
+fn run(rt: &HostRuntime) -> Result<()> {
     let mut text = Vec::new(rt.alloc());
     rt.stdin().take(INPUT).read_to_end(&mut text)?;
-    let mut records = [Change::Removal(NOWHERE); RECORDS];
+    let mut records = [Change::Removal(UNUSED); RECORDS];
     let Some(count) = read_changes(text.as_slice(), &mut records) else {
         println!(rt; "no change list")?;
         return Ok(());
     };
     println!(rt; "changes read: {count:x}")?;
-    if count > RECORDS {
+    let Some(changes) = records.get(..count) else {
         return Ok(());
-    }
-    let changes = &records[0..count];
+    };
     for change in changes {
         show(rt, *change)?;
     }
     show_map(rt, changes)
 }
 
-fn main(rt: HostRuntime) -> anyhow::Result<()> {
+fn main(rt: HostRuntime) -> Result<()> {
     run(&rt)
 }

@@ -3,8 +3,9 @@ ghost use Rattle.std.specs.Prelude.{◌≡◌, [], ◌∷◌, length};
 ghost use Rattle.lexis.specs.Numeral.{numeral};
 ghost use Rattle.lexis.specs.Shown.{shown, Adds, past, placed};
 
-use super::{CAPACITY, Line};
+use super::Line;
 use crate::numbers::glyph_of;
+use arrayvec::ArrayVec;
 
 impl Line {
     // An empty line.
@@ -12,24 +13,22 @@ impl Line {
         ensures { shown result ≡ [] }
     {
         Line {
-            bytes: [0; CAPACITY],
-            len: 0,
+            text: ArrayVec::new(),
         }
     }
 
     pub fn len(&self) -> usize
         ensures { result ≡ length (shown self.now) }
     {
-        self.len
+        self.text.len()
     }
 
     // Puts one byte, if there is room.
     pub fn push(&mut self, b: u8)
         ensures { Adds self.old (b ∷ []) self.new }
     {
-        if self.len < CAPACITY {
-            self.bytes[self.len] = b;
-            self.len += 1;
+        if !self.text.is_full() {
+            self.text.push(b);
         }
     }
 
@@ -42,7 +41,7 @@ impl Line {
         }
     }
 
-    // Puts a number in hexadecimal, without leading zeros.
+    // Puts a number in hexadecimal, without leading zeros. By recursion, since `{n:x}` would need an impl of `fmt::Write`.
     pub fn hex(&mut self, n: u64)
         ensures { Adds self.old (numeral 16 n) self.new }
     {
@@ -57,11 +56,12 @@ impl Line {
         ensures answer { result ≡ past (shown self.now) at buffer.old }
         ensures after { buffer.new ≡ placed (shown self.now) at buffer.old }
     {
-        if self.len > buffer.len() || at > buffer.len() - self.len {
+        let text = self.text.as_slice();
+        if text.len() > buffer.len() || at > buffer.len() - text.len() {
             return None;
         }
-        let end = at + self.len;
-        buffer[at..end].copy_from_slice(&self.bytes[0..self.len]);
+        let end = at + text.len();
+        buffer[at..end].copy_from_slice(text);
         Some(end)
     }
 }

@@ -1,13 +1,14 @@
 // What a reader goes over: fixed text, numbers and keywords.
-ghost use Rattle.std.specs.Prelude.{◌≡◌, ◌+◌, ◌≤◌, true, false, length, drop, slice_index_or};
+ghost use Rattle.std.specs.Prelude.{◌≡◌, ◌+◌, ◌≤◌, length, drop, is_some, Some, None, IfOk, MatchResult};
 ghost use Rattle.lexis.specs.Lang.{Literal, Chosen};
-ghost use Rattle.lexis.specs.Moving.{rest_of, column_of, lost_of, Moves};
+ghost use Rattle.lexis.specs.Moving.{rest_of, column_of, lost_of, Moves, Within, Follows};
 ghost use Rattle.lexis.specs.Numeral.{Number};
 
 use super::Reader;
 use crate::fronts::common;
 use crate::keyword::{Keyword, keyword_at};
-use crate::numbers::number_at;
+use crate::lost::Lost;
+use crate::numbers::Numerals;
 use crate::tokens::Divider;
 
 impl<'a> Reader<'a> {
@@ -15,12 +16,12 @@ impl<'a> Reader<'a> {
     pub fn new(text: &'a [u8]) -> Reader<'a>
         ensures rest { rest_of result ≡ text.now }
         ensures column { column_of result ≡ 1 }
-        ensures lost { lost_of result ≡ false }
+        ensures lost { lost_of result ≡ None }
     {
         Reader {
             rest: text,
             column: 1,
-            lost: false,
+            lost: None,
         }
     }
 
@@ -36,75 +37,85 @@ impl<'a> Reader<'a> {
         self.column
     }
 
+    // Whether the line has failed.
     pub fn is_lost(&self) -> bool
-        ensures { result ≡ lost_of self.now }
+        ensures { result ≡ is_some (lost_of self.now) }
     {
-        self.lost
+        self.lost.is_some()
+    }
+
+    // Where the reader is lost, why it was.
+    fn going(&self) -> Result<(), Lost>
+        ensures { MatchResult result (λ _. lost_of self.now ≡ None) (λ e. lost_of self.now ≡ Some e) }
+    {
+        self.lost.map_or(Ok(()), Err)
     }
 
     // Goes on by `n` bytes.
     fn skip(&mut self, n: usize)
-        requires { n ≤ length (rest_of self.old) }
+        requires inside { n ≤ length (rest_of self.old) }
+        requires going { lost_of self.old ≡ None }
         ensures rest { rest_of self.new ≡ drop n (rest_of self.old) }
         ensures column { column_of self.new ≡ column_of self.old + n }
-        ensures lost { lost_of self.new ≡ lost_of self.old }
+        ensures going { lost_of self.new ≡ None }
     {
         let rest = self.rest;
         self.rest = &rest[n..];
         self.column += n;
     }
 
-    // Goes over `text`.
-    pub fn literal(&mut self, text: &[u8])
-        ensures { Moves (Literal text.now) self.old tt self.new }
+    // Goes on to the rest that a reading left, or to where it failed.
+    fn follow<T: Copy>(&mut self, reading: Result<(T, &'a [u8]), Lost>) -> Result<T, Lost>
+        requires within { Within self.old reading }
+        requires going { lost_of self.old ≡ None }
+        ensures { Follows self.old reading.entry result self.new }
     {
-        if self.lost {
-            return;
-        }
-        let n = common(text, self.rest);
-        self.skip(n);
-        self.lost = n < text.len();
-    }
-
-    // Goes over a hexadecimal number up to `most` and the divider `end`. A reader that is lost answers 0.
-    pub fn number(&mut self, most: u64, end: Divider) -> u64
-        ensures moves { Moves (Number 16 most end) self.old result self.new }
-        ensures small { result ≤ most }
-        ensures otherwise { lost_of self.new ≡ true → result ≡ 0 }
-    {
-        if self.lost {
-            return 0;
-        }
-        match number_at(self.rest, self.column, 16, most, end) {
+        match reading {
             Ok((value, after)) => {
                 self.skip(self.rest.len() - after.len());
-                value
+                Ok(value)
             }
-            Err(column) => {
-                self.skip(column - self.column);
-                self.lost = true;
-                0
+            Err(lost) => {
+                self.skip(lost.column - self.column);
+                self.lost = Some(lost);
+                Err(lost)
             }
         }
     }
 
-    // Goes over one of the words of K. A reader that is lost answers the first of them.
-    pub fn choice<K: Keyword>(&mut self) -> K
-        ensures moves { Moves (Chosen K.Keyword.word) self.old result self.new }
-        ensures otherwise { lost_of self.new ≡ true → result ≡ slice_index_or K.Keyword.all 0 result }
+    // Goes over `text`. A reader that is lost stays where it is, here and below, and answers why it was lost.
+    pub fn literal(&mut self, text: &[u8]) -> Result<(), Lost>
+        ensures { Moves (Literal text.now) self.old result self.new }
     {
-        let first = K::all()[0];
-        if self.lost {
-            return first;
-        }
-        let (found, n) = keyword_at::<K>(self.rest);
+        self.going()?;
+        let n = common(text, self.rest);
         self.skip(n);
-        match found {
-            Some(k) => k,
-            None => {
-                self.lost = true;
-                first
-            }
+        if n < text.len() {
+            let lost = Lost {
+                column: self.column,
+            };
+            self.lost = Some(lost);
+            return Err(lost);
         }
+        Ok(())
+    }
+
+    // Goes over a hexadecimal number up to `most` and the divider `end`.
+    pub fn number(&mut self, most: u64, end: Divider) -> Result<u64, Lost>
+        ensures moves { Moves (Number 16 most end) self.old result self.new }
+        ensures small { IfOk result (λ n. n ≤ most) }
+    {
+        self.going()?;
+        let reading = Numerals::hexadecimal(most).read(self.rest, self.column, end);
+        self.follow(reading)
+    }
+
+    // Goes over one of the words of K.
+    pub fn choice<K: Keyword>(&mut self) -> Result<K, Lost>
+        ensures { Moves (Chosen K.Keyword.word) self.old result self.new }
+    {
+        self.going()?;
+        let reading = keyword_at::<K>(self.rest, self.column);
+        self.follow(reading)
     }
 }

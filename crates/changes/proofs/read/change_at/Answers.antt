@@ -1,19 +1,9 @@
-use Rattle.std.proofs.Common.{sym}
-use Rattle.lexis.proofs.Steps.{read_got, read_lost}
-use Rattle.changes.specs.Shapes.{Shaped}
-use Rattle.changes.proofs.Items.{lined_shaped}
-use Rattle.changes.proofs.Tables.{shaped_lined, unwritable}
+use Rattle.changes.proofs.Tables.{read_line, read_no_line, unwritable}
 use Rattle.changes.proofs.read.change_at.Goals as goal
 
-pub returns-then-is_lost : goal.returns-then-is_lost
-returns-then-is_lost c =
-    let l = read_lost Shaped _ _ _ _ c.new-reader.ensures.rest c.new-reader.ensures.lost c.shaped_line-change.ensures (sym c.if-is_lost.ensures) in
-    λ b w z e h. l.0.none b w z e (lined_shaped w b h)
+pub returns-in_err-change : goal.returns-in_err-change
+returns-in_err-change c = rw c.from_residual.ensures (read_no_line _ _ _ c.new-reader.ensures.rest c.new-reader.ensures.lost _ c.shaped_line.ensures c.in_err-change.ensures.value)
 
 pub returns-then-not-is_writable : goal.returns-then-not-is_writable
 returns-then-not-is_writable c =
-    unwritable _ _ _ _ (read_got Shaped _ _ _ _ c.new-reader.ensures.rest c.new-reader.ensures.lost c.shaped_line-change.ensures (sym c.if-is_lost.ensures)) c.is_writable.ensures c.if-not-is_writable.true
-
-pub returns : goal.returns
-returns c =
-    shaped_lined _ _ _ _ c.rest.ensures (read_got Shaped _ _ _ _ c.new-reader.ensures.rest c.new-reader.ensures.lost c.shaped_line-change.ensures (sym c.if-is_lost.ensures)) (c.is_writable.ensures.0 c.if-not-is_writable.false)
+    unwritable _ _ _ _ (read_line _ _ _ c.new-reader.ensures.rest _ _ c.shaped_line.ensures c.in_ok-change.ensures.value) c.is_writable.ensures c.if-not-is_writable.true

@@ -1,4 +1,4 @@
-use Rattle.changes.proofs.Texts.{never_out, one_on, all_standing}
+use Rattle.changes.proofs.Texts.{never_out, one_on}
 use Rattle.changes.proofs.write.write_lines.Goals as goal
 
 pub returns-in_err-at : goal.returns-in_err-at
@@ -8,6 +8,3 @@ returns-in_err-at c =
 pub loop-change-preserved : goal.loop-change-preserved
 loop-change-preserved c =
     one_on _ _ _ c.loop-change-test.true _ _ _ _ c.requires c.loop-change.auto.buffer c.line_of.ensures c.loop-change.invariant _ _ _ c.copy_to.ensures.answer c.in_ok-at.was c.copy_to.ensures.after
-
-pub returns : goal.returns
-returns c = (c.requires, all_standing _ _ _ _ _ c.loop-change-test.false c.loop-change.invariant)

@@ -9,7 +9,7 @@ returns-then-not-fit c =
     record { answer = no.0; after = no.1; counts = tt; replays = tt; fewest = tt; successive = tt; kinds = tt; runs = runs_replay; rule = one_rule }
 
 pub write_changes-requires : goal.write_changes-requires
-write_changes-requires c = room c.args.old.now.live.now c.args.new.now.live.now _ c.args.list.now c.count_changes-counts.ensures (sym c.if-not-fit.ensures)
+write_changes-requires c = record { counts = c.count_changes-counts.ensures; room = room c.args.old.now.live.now c.args.new.now.live.now _ c.args.list.now c.count_changes-counts.ensures (sym c.if-not-fit.ensures) }
 
 pub returns : goal.returns
 returns c =

@@ -1,25 +1,33 @@
-use Rattle.std.proofs.Common.{◌<◌, length, set, sym, ap, ◌∙◌, subst₂, arith, rules}
-use Rattle.diff.proofs.Walking.{Wrote, wrote_none, wrote_room, wrote_some, wrote_skip, wrote_all}
+use Rattle.std.proofs.Common.{◌≡◌, ◌++◌, map, length, take, drop, set, sym, ap, ◌∙◌, arith}
+use Rattle.std.proofs.lemmas.Iterator.Consumers.{YieldsList-from_first, YieldsList-from_enumerate, YieldsList-turn, YieldsList-end}
+use Rattle.std.proofs.lemmas.List.{length_push, take_all}
+use Rattle.std.proofs.lemmas.List.FromFn.{length-enumerate_from, get_or-enumerate_from}
+use Rattle.model.specs.Changes.{entry}
+use Rattle.diff.specs.Merge.{left_over}
+use Rattle.diff.specs.ChangeLists.{ranges, missing}
+use Rattle.diff.proofs.Writing.{written_more}
 use Rattle.diff.proofs.merge.write_missing.Goals as goal
-use Rattle.diff.proofs.merge.write_missing.Goals.{then-not-stands_at, else-not-stands_at}
 
-pub loop-x-init : goal.loop-x-init
-loop-x-init c = wrote_none _ _ _ _ _
-
-pub bounds-list-end : goal.bounds-list-end
-bounds-list-end c = omega (arith, wrote_room _ _ _ _ _ _ _ _ _ _ _ c.requires.rise c.requires.beside c.requires.room c.loop-x-test.true c.loop-x.invariant c.first_from-at.ensures (sym c.if-not-stands_at.ensures), c.loop-x.auto.list)
-
-pub offset_bounds-list-end : goal.offset_bounds-list-end
-offset_bounds-list-end c = let on : c.loop-x.end < length c.loop-x.list = bounds-list-end c in search rules
-
-pub overflow_add-end : goal.overflow_add-end
-overflow_add-end c = let on : c.loop-x.end < length c.loop-x.list = bounds-list-end c in search rules
-
-pub loop-x-preserved : goal.loop-x-preserved
-loop-x-preserved c = elim c.if-not-stands_at.branch [
-  | then-not-stands_at w ↦ subst₂ (Wrote _ _ _ _ _ _ _) (sym (w.list-is ∙ ap (set c.loop-x.list c.loop-x.end) w.entry.ensures)) (sym w.end-is) (wrote_some _ _ _ _ _ _ _ _ _ _ _ c.requires.rise c.requires.beside c.requires.room c.loop-x-test.true c.loop-x.invariant c.first_from-at.ensures (sym w.if-not-stands_at.ensures))
-  | else-not-stands_at w ↦ subst₂ (Wrote _ _ _ _ _ _ _) (sym w.list-is) (sym w.end-is) (wrote_skip _ _ _ _ _ _ _ _ _ _ _ c.requires.rise c.requires.beside c.requires.room c.loop-x-test.true c.loop-x.invariant c.first_from-at.ensures (sym w.if-not-stands_at.ensures))
-]
+pub loop-i-preserved : goal.loop-i-preserved
+loop-i-preserved c =
+    let all = missing (ranges c.args.xs.now) (ranges c.args.ys.now) in
+    let was = c.args.list.now in
+    let n = length c.loop-i.yielded in
+    let x = c.in-Some.range in
+    let t = YieldsList-turn (YieldsList-from_enumerate (YieldsList-from_first (λ x. x) left_over all (cc)) (cc)) c.loop-i.yielded c.loop-i.i-iterator c.loop-i.yielded_by c.next.result c.next.new.self (c.in-Some.i, x) c.in-Some.is c.next.ensures.steps in
+    let long = length-enumerate_from 0 all in
+    let at = t.1 ∙ get_or-enumerate_from 0 all n (c.in-Some.i, x) (omega arith) in
+    let index : c.in-Some.i ≡ n = omega (arith, ap (λ p. p.0) at) in
+    let more = length_push c.loop-i.yielded (c.in-Some.i, x) in (
+      omega (arith, more),
+      (λ j. set (c.loop-i.invariant.1 j) (index j) ((c.entry.ensures ∙ ap (λ p. entry c.args.action p.1) at) j))
+          ∙ written_more (entry c.args.action) all was n x (omega arith) (omega (arith, c.requires))
+          ∙ sym (ap (λ k. map (entry c.args.action) (take k all) ++ drop k was) more),
+    )
 
 pub returns : goal.returns
-returns c = let all = wrote_all _ _ _ _ _ _ _ _ _ c.loop-x-test.false c.loop-x.invariant in record { end = all.0; after = all.1 }
+returns c =
+    let all = missing (ranges c.args.xs.now) (ranges c.args.ys.now) in
+    let t = YieldsList-end (YieldsList-from_enumerate (YieldsList-from_first (λ x. x) left_over all (cc)) (cc)) c.loop-i.yielded c.loop-i.i-iterator c.loop-i.yielded_by c.next.result c.next.new.self c.in-None.is c.next.ensures.steps in
+    let done = t.1 ∙ length-enumerate_from 0 all in
+    c.loop-i.invariant.1 ∙ ap (λ k. map (entry c.args.action) (take k all) ++ drop k c.args.list.now) done ∙ ap (λ l. map (entry c.args.action) l ++ drop (length all) c.args.list.now) (take_all (length all) all (omega arith))

@@ -3,8 +3,8 @@ use Rattle.std.proofs.lemmas.Result.{err_from_is_err_and}
 use Rattle.tree.specs.Model.{Model, model_of}
 use Rattle.edits.specs.Edited.{edited}
 use Rattle.edits.specs.Promises.{Reordered}
-use Rattle.edits.specs.Rows.{edit_rows, edit_refusal, told, unless}
-use Rattle.edits.proofs.Limits.{from_low, from_fine}
+use Rattle.model.specs.Rows.{told, unless}
+use Rattle.edits.specs.Rows.{edit_rows, edit_refusal}
 use Rattle.edits.proofs.Promised.{paths_told, reordered}
 use Rattle.edits.proofs.Sound.{Sound, passes, sound_edit}
 use Rattle.edits.proofs.Trees.{sound_tree}
@@ -29,16 +29,7 @@ invariant_of-tree c =
     let h = c.in_ok-table.ensures in
     let e = c.args.edit in
     let sound = subst Sound (sym h.1) (sound_edit c.args.backing t e (passes (edit_rows c.args.backing t e) h.0) (sound_tree c.args.tree.now)) in
-    record {
-      numbered = h.2.numbered;
-      rows = h.2.rows;
-      fits = h.2.fits;
-      sizes = from_fine _ sound.fine;
-      offsets = from_low _ sound.well.low;
-      single = sound.well.single;
-      ranked = sound.well.ranked;
-      short = sound.short;
-    }
+    record { short = sound.short }
 
 pub returns : goal.returns
 unfolding edit_refusal

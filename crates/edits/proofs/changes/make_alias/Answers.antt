@@ -1,31 +1,34 @@
-use Rattle.std.proofs.Common.{take, Some, sym, refl, ap, ◌∙◌}
+use Rattle.std.proofs.Common.{Some, sym, refl, ◌∙◌, subst}
 use Rattle.tree.specs.declared.regions.Body.TheVariants as body
-use Rattle.tree.specs.Model.{model_of, fresh}
+use Rattle.tree.specs.Model.{Model, model_of, fresh}
 use Rattle.edits.specs.declared.edit.Edit.TheVariants.{Alias}
+use Rattle.edits.specs.Edges.{OneNew}
 use Rattle.edits.specs.Edited.{with_region, edited}
-use Rattle.edits.specs.Rows.{defined, edit_rows}
-use Rattle.edits.proofs.Sound.{unrefused, checked_is, known, tested_changed}
+use Rattle.edits.specs.Rows.{alias_rows}
+use Rattle.edits.proofs.Limits.{Fine}
+use Rattle.edits.proofs.Sound.{passes, fine_alias, one_alias, tested_changed}
+use Rattle.edits.proofs.Trees.{sound_tree}
 use Rattle.edits.proofs.changes.make_alias.Goals as goal
+
+pub with_region-table-requires-clause-bounded : goal.with_region-table-requires-clause-bounded
+with_region-table-requires-clause-bounded c =
+    let t = model_of c.args.tree.now.table in
+    let h = c.in_ok-alias.ensures in
+    let ok = passes (alias_rows t c.args.number c.args.size c.args.target c.args.from) h.0 in
+    subst (λ g. Fine (Some g)) (sym h.1.1) (fine_alias t c.args.number c.args.size c.args.target c.args.from ok)
+
+pub check_paths-requires : goal.check_paths-requires
+check_paths-requires c =
+    let t = model_of c.args.tree.now.table in
+    let h = c.in_ok-alias.ensures in
+    let ok = passes (alias_rows t c.args.number c.args.size c.args.target c.args.from) h.0 in
+    let is = c.with_region-table.ensures ∙ (λ i. with_region t (h.1.0 i) (Some (h.1.1 i))) in
+    subst (λ (m : Model). OneNew m c.in_ok-alias.alias.number) (sym is) (subst (λ n. OneNew (with_region t c.args.number (Some (fresh (body.Alias c.args.target c.args.from) c.args.size))) n) (sym h.1.0) (one_alias t c.args.number c.args.size c.args.target c.args.from (sound_tree c.args.tree.now) ok))
 
 pub returns : goal.returns
 unfolding edited
 returns c b =
     let t = model_of c.args.tree.now.table in
-    let e = Alias c.args.number c.args.size c.args.target c.args.from in
-    let target = c.in_ok-check_region.ensures in
-    let same = checked_is _ _ _ _ c.in_ok-index.ensures in
-    tested_changed b t e (take 5 (edit_rows b t e)) _ _ refl (
-      unrefused _ _ _ _ c.in_ok-check_size.ensures,
-      (
-        unrefused _ _ _ _ c.in_ok-check_offset.ensures,
-        (
-          unrefused _ _ _ _ c.in_ok-index.ensures,
-          (
-            known t _ _ target.0 target.1,
-            (ap (defined t) (sym same) ∙ unrefused _ _ _ _ c.in_ok-check_free.ensures, tt),
-          ),
-        ),
-      ),
-    )
-    (ap (λ n. with_region t n (Some (fresh (body.Alias c.args.target c.args.from) c.args.size))) same)
-    c.with_alias.ensures
+    let h = c.in_ok-alias.ensures in
+    let is = c.with_region-table.ensures ∙ (λ i. with_region t (h.1.0 i) (Some (h.1.1 i))) in
+    tested_changed b t (Alias c.args.number c.args.size c.args.target c.args.from) (alias_rows t c.args.number c.args.size c.args.target c.args.from) _ _ refl h.0 is c.check_paths.ensures

@@ -1,11 +1,16 @@
-use Rattle.std.proofs.Common.{true}
-use Rattle.std.proofs.lemmas.List.Elements.{contains_decides}
-use Rattle.std.specs.Cmp.{booleans_Decides}
+use Rattle.std.proofs.Common.{◌≡◌, Bool, true, false, not, refl, ap, ◌∙◌}
 use Rattle.tree.specs.Model.{model_of}
 use Rattle.edits.specs.PathTests.{goes_on, too_long}
-use Rattle.edits.proofs.Rounds.{any_marked}
+use Rattle.edits.proofs.Limits.{bounded_table}
+use Rattle.edits.proofs.Rounds.{any_of_set, goes_on_set}
 use Rattle.edits.proofs.paths.is_too_long.Goals as goal
+
+twice : (b : Bool) → not (not b) ≡ b
+twice true = refl
+twice false = refl
 
 pub returns : goal.returns
 unfolding too_long
-returns c = any_marked (goes_on (model_of c.args.table.now) 9) _ _ c.starts_of.ensures (contains_decides _ booleans_Decides _ true _ c.contains.ensures.cases)
+returns c =
+    let t = model_of c.args.table.now in
+    ap not c.is_empty.ensures ∙ twice _ ∙ any_of_set (goes_on t 9) c.rounds_back.result (goes_on_set t c.all.result c.none.result c.rounds_back.result 9 (bounded_table c.args.table.now) c.all.ensures c.none.ensures c.rounds_back.ensures)

@@ -1,13 +1,22 @@
-use Rattle.std.proofs.Common.{◌≡◌, ◌+◌, ◌≤◌, length, take, ap, ◌∙◌, arith, rules}
-use Rattle.std.proofs.lemmas.List.{take_at, length-take-le}
+use Rattle.std.proofs.Common.{ap, ◌∙◌}
+use Rattle.tree.specs.Bounds.{bounded_attachments}
+use Rattle.tree.specs.Listed.{listed}
 use Rattle.tree.specs.Model.{model_of}
-use Rattle.tree.specs.Order.{inserted}
 use Rattle.edits.specs.Edited.{with_order}
-use Rattle.edits.proofs.Orders.{length_inserted}
+use Rattle.edits.proofs.Limits.{low_from, from_low}
+use Rattle.edits.proofs.Orders.{room_without, low_inserted, on_ok}
 use Rattle.edits.proofs.tables.with_child.Goals as goal
+
+pub invariant_of-table-clause-offsets : goal.invariant_of-table-clause-offsets
+invariant_of-table-clause-offsets c =
+    let cs = listed c.args.table.order in
+    let low = low_from cs c.args.table.offsets in
+    let is = on_ok c.insert.result (c.insert.ensures.room.1 (room_without c.args.new cs c.requires low c.args.table.order.single)) c.insert.ensures.ok in
+    ap bounded_attachments is ∙ from_low _ (low_inserted c.args.new cs c.requires low)
 
 pub returns : goal.returns
 returns c =
-    let le : c.args.table.attached ≤ length c.args.table.order = omega arith in
-    let long : length (inserted c.args.new (take c.args.table.attached c.args.table.order)) ≡ c.args.table.attached + 1 = length_inserted _ _ ∙ ap (λ n. n + 1) (length-take-le _ _ le) in
-    record { model = ap (with_order (model_of c.args.table)) (ap (take (c.args.table.attached + 1)) c.insert.ensures ∙ take_at _ _ _ long); sized = search rules }
+    let cs = listed c.args.table.order in
+    let low = low_from cs c.args.table.offsets in
+    let is = on_ok c.insert.result (c.insert.ensures.room.1 (room_without c.args.new cs c.requires low c.args.table.order.single)) c.insert.ensures.ok in
+    ap (with_order (model_of c.args.table)) is

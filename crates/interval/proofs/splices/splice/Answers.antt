@@ -2,18 +2,9 @@ use Rattle.std.proofs.Common.{◌≡◌, ◌+◌, ◌-◌, ◌++◌, length, dro
 use lib.Seq.{paste}
 use Rattle.std.specs.Option.{option_to_list}
 use Rattle.interval.specs.Calls.{counted, written, spliced}
-use Rattle.interval.proofs.Fits.{fits, too_long}
+use Rattle.interval.proofs.Fits.{fits}
 use Rattle.interval.proofs.Placing.{length_three, length_spliced, spliced_is, paste_three}
 use Rattle.interval.proofs.splices.splice.Goals as goal
-
-pub returns-then-pieces-table : goal.returns-then-pieces-table
-returns-then-pieces-table g c =
-    let xs = c.args.table.now in
-    let ps = option_to_list c.args.left ++ option_to_list c.args.middle ++ option_to_list c.args.right in
-    let n = length_three (option_to_list c.args.left) (option_to_list c.args.middle) (option_to_list c.args.right) in
-    let k = length_spliced xs ps c.args.used c.args.from c.args.to c.requires.from_within c.requires.to_within c.requires.used_within in
-    let e = too_long xs (spliced xs c.args.used c.args.from c.args.to ps) (omega arith) in
-    record { count = sym (ap counted e); after = sym (ap (written xs) e) }
 
 pub returns : goal.returns
 returns g c =
@@ -22,11 +13,11 @@ returns g c =
     let m = option_to_list c.args.middle in
     let r = option_to_list c.args.right in
     let ps = l ++ m ++ r in
-    let from = c.args.from in
-    let to = c.args.to in
+    let from = c.args.held.now.start in
+    let to = c.args.held.now.end in
     let used = c.args.used in
     let n = length_three l m r in
-    let k = length_spliced xs ps used from to c.requires.from_within c.requires.to_within c.requires.used_within in
+    let k = length_spliced xs ps used from to c.requires.order c.requires.within c.requires.used_within in
     let e = fits xs (spliced xs used from to ps) (omega arith) in
     let same : c.count_of.result + c.count_of-2.result + c.count_of-3.result ≡ length ps = omega arith in
     let moved : c.copy_within.new.self ≡ paste xs (from + length ps) (drop to xs) (used - to) = c.copy_within.ensures.after ∙ ap (λ z. paste xs (from + z) (drop to xs) (used - to)) same in
@@ -35,5 +26,5 @@ returns g c =
     (omega (arith, c.copy_within.ensures.len)) c.write-at.ensures.after c.write-at.ensures.next c.write-at-2.ensures.after c.write-at-2.ensures.next c.write.ensures.after in
     record {
       count = ap Ok (omega arith) ∙ sym (ap counted e);
-      after = put ∙ ap (λ z. paste z from ps (length ps)) moved ∙ spliced_is xs ps used from to c.requires.from_within c.requires.to_within c.requires.used_within (omega arith) ∙ sym (ap (written xs) e);
+      after = put ∙ ap (λ z. paste z from ps (length ps)) moved ∙ spliced_is xs ps used from to c.requires.order c.requires.within c.requires.used_within (omega arith) ∙ sym (ap (written xs) e);
     }

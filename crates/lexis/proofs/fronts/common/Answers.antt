@@ -1,16 +1,17 @@
-use Rattle.std.proofs.Common.{arith}
-use Rattle.std.proofs.lemmas.List.{take_more_same}
-use Rattle.lexis.proofs.Picks.{agree_is}
+use Rattle.std.proofs.Common.{ℕ, eqb, rules, tests, ◌∙◌}
+use Rattle.std.specs.List.{zip}
+use Rattle.std.proofs.lemmas.Iterator.{YieldsList-from_slice, YieldsList-from_zip}
+use Rattle.std.proofs.lemmas.Iterator.Consumers.{count_from_yields_List}
+use Rattle.std.proofs.lemmas.Iterator.Search.{YieldsList-from_take_while}
+use Rattle.std.proofs.lemmas.List.Folds.{length-prefix_len}
+use Rattle.lexis.proofs.Picks.{agree_pairs}
 use Rattle.lexis.proofs.fronts.common.Goals as goal
 
-pub loop-n-preserved : goal.loop-n-preserved
-loop-n-preserved c = (omega arith, omega arith, take_more_same c.args.a.now c.args.b.now c.loop-n.n 0 (omega arith) (omega arith) c.loop-n.invariant.2 c.if-a-n.false)
-
-pub returns-then-a-n : goal.returns-then-a-n
-returns-then-a-n c = let i = c.loop-n.invariant in agree_is _ _ _ i.0 i.1 i.2 (λ _ _. c.if-a-n.true)
-
-pub returns-else-n-b : goal.returns-else-n-b
-returns-else-n-b c = let i = c.loop-n.invariant in agree_is _ _ _ i.0 i.1 i.2 (λ x y _. omega arith)
-
-pub returns-after-loop-n : goal.returns-after-loop-n
-returns-after-loop-n c = let i = c.loop-n.invariant in agree_is _ _ _ i.0 i.1 i.2 (λ x y _. omega arith)
+pub returns : goal.returns
+returns c =
+    let a = c.args.a.now in
+    let b = c.args.b.now in
+    count_from_yields_List c.take_while.result _ c.count.ensures.ran
+    (YieldsList-from_take_while _ (λ (p : ℕ × ℕ). eqb p.0 p.1) (YieldsList-from_zip (YieldsList-from_slice a cc) (YieldsList-from_slice b cc)) c.take_while.ensures.closure c.take_while.ensures.done (λ x r q k. search (rules, tests)))
+    ∙ length-prefix_len (λ (p : ℕ × ℕ). eqb p.0 p.1) (zip a b)
+    ∙ agree_pairs a b

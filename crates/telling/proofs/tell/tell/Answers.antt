@@ -1,12 +1,9 @@
-use Rattle.std.proofs.Common.{◌+◌, drop, sym, refl, ap, ◌∙◌}
+use Rattle.std.proofs.Common.{◌+◌, drop, sym, ap, ◌∙◌}
 use Rattle.std.proofs.lemmas.List.{at_drop_more, at_drop_all}
 use Rattle.model.specs.declared.changes.Change.TheVariants.{Removal}
 use Rattle.telling.specs.Telling.{told_all}
 use Rattle.telling.proofs.Following.{blank, follows}
 use Rattle.telling.proofs.tell.tell.Goals as goal
-
-pub loop-change-init : goal.loop-change-init
-loop-change-init g c = refl
 
 pub loop-change-preserved : goal.loop-change-preserved
 loop-change-preserved g c =

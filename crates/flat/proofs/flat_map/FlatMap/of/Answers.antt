@@ -19,6 +19,6 @@ returns c =
       stands = of_stands t _ size _ c.flattened.ensures.stands;
       map = map;
       ruled = ruled;
-      lie = all_lie t _ c.args.tree.now.sizes map.maximal.order ruled;
+      lie = all_lie t _ c.args.tree.now.table.sizes map.maximal.order ruled;
       layers = layered t top;
     }

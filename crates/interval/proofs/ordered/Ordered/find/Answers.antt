@@ -1,27 +1,27 @@
-use Rattle.std.proofs.Common.{◌+◌, ◌-◌, ◌/◌, None, sym, refl, arith}
-use Rattle.interval.proofs.Finding.{finds_as, narrow_start, narrow_end, narrow_found, narrow_low, narrow_high}
+use Rattle.std.proofs.Common.{◌<◌, ◌≤◌, length, sym, ◌∙◌, rules}
+use Rattle.std.proofs.lemmas.Bool.{cond-true, cond-false}
+use Rattle.interval.proofs.Finding.{found_one, found_none, finds_as}
 use Rattle.interval.proofs.ordered.Ordered.find.Goals as goal
+use Rattle.interval.proofs.ordered.Ordered.find.Goals.{in_default-via-in-Some+else-covers, in_default-via-in_default}
 
-pub loop-low-init : goal.loop-low-init
-loop-low-init g c = narrow_start c.args.self.now.live.now c.args.address
+pub returns-in-Some : goal.returns-in-Some
+returns-in-Some g c =
+    let xs = c.args.self.now.live.now in
+    let a = c.args.address in
+    let within : c.count_ended.result < length xs = search rules in
+    let e = sym (found_one a 0 xs c.count_ended.result c.in-Some.s.now c.args.self.now.rises c.count_ended.ensures within c.in-Some.ensures.lookup.1 ∙ cond-true _ _ _ (sym c.if-covers.ensures)) in
+    record { value = e; finds = finds_as xs a _ e }
 
-pub loop-low-preserved : goal.loop-low-preserved
-loop-low-preserved g c =
-    let m = c.loop-low.low + (c.loop-low.high - c.loop-low.low) / 2 in
-    narrow_high c.args.self.now.live.now c.args.address c.loop-low.low c.loop-low.high m _ c.index-self-middle.result c.loop-low.invariant c.args.self.now.rises (omega arith) (omega arith) refl c.if-s-address.false
+pub returns-in_default-clause-value : goal.returns-in_default-clause-value
+returns-in_default-clause-value g c =
+    let xs = c.args.self.now.live.now in
+    let a = c.args.address in
+    let r = c.args.self.now.rises in
+    let n = c.count_ended.result in
+    elim c.in_default.branch [
+      | in_default-via-in-Some+else-covers w ↦ (let within : n < length xs = search rules in sym (found_one a 0 xs n w.in-Some.s.now r c.count_ended.ensures within w.in-Some.ensures.lookup.1 ∙ cond-false _ _ _ (sym w.if-covers.ensures)))
+      | in_default-via-in_default w ↦ (let past : length xs ≤ n = search rules in sym (found_none a 0 xs n r c.count_ended.ensures past))
+    ]
 
-pub returns : goal.returns
-returns g c =
-    let e = sym (narrow_end c.args.self.now.live.now c.args.address c.loop-low.low c.loop-low.high c.loop-low.invariant c.loop-low-test.false) in
-    record { value = e; finds = finds_as c.args.self.now.live.now c.args.address None e }
-
-pub returns-then-covers : goal.returns-then-covers
-returns-then-covers g c =
-    let m = c.loop-low.low + (c.loop-low.high - c.loop-low.low) / 2 in
-    let e = narrow_found c.args.self.now.live.now c.args.address c.loop-low.low c.loop-low.high m _ c.index-self-middle.result c.loop-low.invariant c.args.self.now.rises (omega arith) (omega arith) refl (sym c.if-covers.ensures) in
-    record { value = e; finds = finds_as c.args.self.now.live.now c.args.address _ e }
-
-pub loop-low-preserved-then-s-address : goal.loop-low-preserved-then-s-address
-loop-low-preserved-then-s-address g c =
-    let m = c.loop-low.low + (c.loop-low.high - c.loop-low.low) / 2 in
-    narrow_low c.args.self.now.live.now c.args.address c.loop-low.low c.loop-low.high m _ c.index-self-middle.result c.loop-low.invariant c.args.self.now.rises (omega arith) (omega arith) refl (sym c.if-covers.ensures) c.if-s-address.true
+pub returns-in_default-clause-finds : goal.returns-in_default-clause-finds
+returns-in_default-clause-finds g c = finds_as c.args.self.now.live.now c.args.address _ (returns-in_default-clause-value g c)

@@ -1,30 +1,17 @@
-use Rattle.std.proofs.Common.{◌<◌, ◌≤◌, length, sym, ◌∙◌, arith}
-use Rattle.std.proofs.lemmas.List.{at_drop_all}
+use Rattle.std.proofs.Common.{◌∙◌, rules, tests}
+use Rattle.std.proofs.lemmas.Iterator.{YieldsList-from_slice}
+use Rattle.std.proofs.lemmas.Iterator.Adapters.{YieldsList-from_flatten}
+use Rattle.std.proofs.lemmas.Iterator.Consumers.{YieldsList-at}
+use Rattle.std.proofs.lemmas.Iterator.Search.{all_from_yields_List}
+use Rattle.std.specs.Iterator.Adapters.{option_iter_item, option_iter_done}
+use Rattle.std.specs.Option.{option_to_list}
 use Rattle.interval.specs.Stretches.{stop}
-use Rattle.interval.specs.Edits.{free}
-use Rattle.listener.specs.Slots.{held_in}
-use Rattle.listener.proofs.Steps.{clear_past_none, clear_past_apart, unclear_here}
+use Rattle.interval.specs.Edits.{apart}
+use Rattle.listener.proofs.Searches.{of_option, all_clear}
 use Rattle.listener.proofs.slots.Slots.is_clear.Goals as goal
-use Rattle.listener.proofs.slots.Slots.is_clear.Goals.{in-Some+else-not-is_apart, in_default}
-
-pub returns-then-not-is_apart : goal.returns-then-not-is_apart
-returns-then-not-is_apart g c =
-    let s = c.args.self.now in
-    let h : c.loop-i.i < length s.slots = omega (arith, s.whole) in
-    unclear_here c.args.range.now s.slots c.loop-i.i h c.loop-i.invariant c.in-Some.x c.in-Some.is c.if-not-is_apart.ensures
-
-pub loop-i-preserved : goal.loop-i-preserved
-loop-i-preserved g c =
-    let s = c.args.self.now in
-    let h : c.loop-i.i < length s.slots = omega (arith, s.whole) in
-    elim c.match-slot.branch [
-      | in-Some+else-not-is_apart w ↦ clear_past_apart c.args.range.now s.slots c.loop-i.i h c.loop-i.invariant w.in-Some.x w.in-Some.is w.if-not-is_apart.ensures
-      | in_default w ↦ clear_past_none c.args.range.now s.slots c.loop-i.i h c.loop-i.invariant w.in_default.is
-    ]
 
 pub returns : goal.returns
 returns g c =
     let s = c.args.self.now in
     let r = c.args.range.now in
-    let h : length s.slots ≤ c.loop-i.i = omega (arith, s.whole) in
-    sym (at_drop_all (λ t. free r.start (stop r) (held_in t)) s.slots c.loop-i.i h) ∙ c.loop-i.invariant
+    all_from_yields_List (apart r.start (stop r)) _ _ c.all.result c.all.ensures.ran (YieldsList-from_flatten _ _ _ option_to_list (λ x j e. of_option option_iter_item option_iter_done x.now j e.0 e.1) (YieldsList-at c.flatten.ensures.source (YieldsList-from_slice s.slots c.iter.ensures.rest)) c.flatten.ensures.front c.flatten.ensures.back c.flatten.ensures.done) (λ x b q k. search (rules, tests)) ∙ all_clear r.start (stop r) s.slots

@@ -8,7 +8,7 @@ use Rattle.tree.proofs.tree.Tree.find.Goals as goal
 pub returns : goal.returns
 unfolding search
 returns c =
-    let is : c.probe.result.place ≡ search (model_of c.args.self.now.table) c.args.address = sees_first _ _ _ _ (lit< tt) c.probe.ensures.sees ∙ ap (search (model_of c.args.self.now.table)) (add-zero c.args.address) in
+    let is : c.probe.result.label ≡ search (model_of c.args.self.now.table) c.args.address = sees_first _ _ _ _ (lit< tt) c.probe.ensures.sees ∙ ap (search (model_of c.args.self.now.table)) (add-zero c.args.address) in
     let both = agrees (model_of c.args.self.now.table) c.args.self.now.short in
     record {
       is = is;

@@ -1,7 +1,7 @@
-use Rattle.std.proofs.Common.{◌≡◌, ℕ, ◌+◌, false, None, refl, arith}
+use Rattle.std.proofs.Common.{◌≡◌, ℕ, ◌+◌, false, None, arith}
 use Rattle.tree.specs.Model.{model_of}
 use Rattle.tree.specs.Search.{search}
-use Rattle.tree.specs.Sights.{SeesIn}
+use Rattle.tree.specs.Sights.{SeesAt, SeesIn}
 use Rattle.tree.proofs.Agree.{ruled}
 use Rattle.tree.proofs.Sighted.{sees_nothing}
 use Rattle.tree.proofs.Steps.{search_beyond}
@@ -10,10 +10,11 @@ use Rattle.tree.proofs.tree.Tree.probe.Goals as goal
 pub returns-then-address-root_size : goal.returns-then-address-root_size
 returns-then-address-root_size c =
     let none : (i : ℕ) → search (model_of c.args.self.now.table) (c.args.address + i) ≡ None = λ i. search_beyond _ _ (omega arith) in
+    let sees : SeesAt (model_of c.args.self.now.table) c.args.address c.args.limit c.nothing.result = sees_nothing _ _ _ _ c.nothing.ensures none in
     record {
-      sees = sees_nothing _ _ _ none;
-      ruled = ruled (model_of c.args.self.now.table) c.args.self.now.short _ _ (λ i lt. none i);
-      beyond = λ past. refl;
+      sees = sees;
+      ruled = ruled (model_of c.args.self.now.table) c.args.self.now.short _ _ sees.same;
+      beyond = λ past. c.nothing.ensures;
     }
 
 pub returns : goal.returns

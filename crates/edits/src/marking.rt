@@ -1,0 +1,92 @@
+// Sets of regions, made, asked and added to.
+ghost use Rattle.std.specs.Prelude.{◌≡◌, ℕ, ◌<◌, true, false, not, ◌||◌, None, ◌==◌, slice_index_or};
+ghost use Rattle.std.specs.List.{list_any};
+ghost use Rattle.edits.specs.Marks.{IsSetOf, has, children};
+ghost use Rattle.edits.specs.PathTests.{below, targets_of};
+
+use crate::marks::Marks;
+use tree::regions::{Attachment, Region};
+
+impl Marks {
+    pub(crate) fn none() -> Marks
+        ensures { IsSetOf (λ _. false) result }
+    {
+        Marks {
+            marked: [false; 64],
+        }
+    }
+
+    pub(crate) fn all() -> Marks
+        ensures { IsSetOf (λ _. true) result }
+    {
+        Marks { marked: [true; 64] }
+    }
+
+    // One region alone.
+    pub(crate) fn only(number: u8) -> Marks
+        ensures { IsSetOf (λ k. k == number) result }
+    {
+        let mut marks = Marks::none();
+        marks.add(number);
+        marks
+    }
+
+    pub(crate) fn is_empty(&self) -> bool
+        ensures { result ≡ not (list_any (has self.now) (below 64)) }
+    {
+        !self.marked.contains(&true)
+    }
+
+    pub(crate) fn has(&self, number: u8) -> bool
+        ensures { result ≡ has self.now number }
+    {
+        self.marked.get(usize::from(number)) == Some(&true)
+    }
+
+    // A number from 64 on is no region's.
+    fn add(&mut self, number: u8)
+        ensures { (k : ℕ) → k < 64 → has self.new k ≡ ((number == k) || has self.old k) }
+    {
+        let place = usize::from(number);
+        if place < self.marked.len() {
+            self.marked[place] = true;
+        }
+    }
+
+    // Adds the regions of another set. By number, since a proof loses what is written through `iter_mut`
+    // beside another iterator.
+    pub(crate) fn add_all(&mut self, others: &Marks)
+        ensures { (k : ℕ) → has self.new k ≡ (has others.now k || has self.old k) }
+    {
+        for (number, other) in others.marked.iter().enumerate() {
+            self.marked[number] |= *other;
+        }
+    }
+
+    // Adds the parents of marked regions.
+    pub(crate) fn add_parents(&mut self, attachments: &[Attachment], marked: &Marks)
+        ensures { (k : ℕ) → k < 64 → has self.new k ≡ (has self.old k || list_any (has marked.now) (children k attachments.now)) }
+    {
+        for attachment in attachments {
+            if marked.has(attachment.child) {
+                self.add(attachment.parent);
+            }
+        }
+    }
+
+    // Adds the aliases of marked regions, whose places in the array are their numbers.
+    pub(crate) fn add_aliases(&mut self, regions: &[Option<Region>; 64], marked: &Marks)
+        ensures { (k : ℕ) → has self.new k ≡ (has self.old k || list_any (has marked.now) (targets_of (slice_index_or regions.now k None))) }
+    {
+        for (number, region) in regions.iter().enumerate() {
+            self.marked[number] |= shows_marked(*region, marked);
+        }
+    }
+}
+
+fn shows_marked(region: Option<Region>, marked: &Marks) -> bool
+    ensures { result ≡ list_any (has marked.now) (targets_of region) }
+{
+    let target = region.and_then(|region| region.target());
+    target.is_some_and(|target| marked.has(target))
+}
