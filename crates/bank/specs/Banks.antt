@@ -12,11 +12,11 @@ front kind mask bytes n = record { kind = kind; bytes = take n bytes; masks = re
 
 -- RAM, which a write alters whole
 abbrev pub ram_of : Front → Device
-ram_of f = front Ram 255 f.bytes f.shown
+ram_of f = front Ram 255 f.bytes f.len
 
 -- ROM, which no write alters
 abbrev pub rom_of : Front → Device
-rom_of f = front Rom 0 f.bytes f.shown
+rom_of f = front Rom 0 f.bytes f.len
 
 -- registers, each byte under a mask of its own
 abbrev pub registers_of : List Register → Device

@@ -30,17 +30,17 @@ absent_sound =
 pub single_sound : (d : Device) → Sound d → (n : ℕ) → Sound (single d n)
 single_sound d s n = elim (n == 0) as (λ t. Sound (cond t d absent)) [ true ↦ s | false ↦ absent_sound ]
 
-pub front_long : (f : Front) → length (take f.shown f.bytes) ≡ f.shown
+pub front_long : (f : Front) → length (take f.len f.bytes) ≡ f.len
 front_long f =
-    let whole = f.whole in let within = f.within in length-take-le f.shown f.bytes (omega arith)
+    let whole = f.whole in let within = f.within in length-take-le f.len f.bytes (omega arith)
 
-front_sound : (kind : Kind) (mask : ℕ) (f : Front) → mask < 256 → Sound (front kind mask f.bytes f.shown)
+front_sound : (kind : Kind) (mask : ℕ) (f : Front) → mask < 256 → Sound (front kind mask f.bytes f.len)
 front_sound kind mask f narrow =
     record {
       short = rw (front_long f) f.within;
-      level = length-replicate f.shown mask ∙ sym (front_long f);
-      small = take_small f.shown f.bytes f.small;
-      narrow = replicate_small f.shown mask narrow;
+      level = length-replicate f.len mask ∙ sym (front_long f);
+      small = take_small f.len f.bytes f.small;
+      narrow = replicate_small f.len mask narrow;
     }
 
 pub ram_sound : (f : Front) → Sound (ram_of f)

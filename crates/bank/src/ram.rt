@@ -6,7 +6,7 @@ ghost use Rattle.bank.specs.Soundness.{ram_sound};
 
 use crate::bank::{Bank, PastEnd};
 use crate::chip::Chip;
-use crate::front::Front;
+use crate::front::{CAPACITY, Front};
 use crate::lone::Lone;
 use model::kinds::Kind;
 
@@ -22,10 +22,7 @@ impl Lone<RamChip> {
     pub fn new(len: u64) -> Ram
         ensures { ⟦<Ram as Bank>⟧.devices result ≡ single (zeroed (shown_for len)) }
     {
-        let front = Front {
-            bytes: [0u8; 8192],
-            shown: shown_length(len),
-        };
+        let front = Front::zeros(shown_length(len));
         Lone {
             chip: RamChip { front },
         }
@@ -36,9 +33,9 @@ impl Lone<RamChip> {
 fn shown_length(len: u64) -> usize
     ensures { result ≡ shown_for len }
 {
-    match len {
-        1..=8192 => len as usize,
-        _ => 8192,
+    match len as usize {
+        shown @ 1..=CAPACITY => shown,
+        _ => CAPACITY,
     }
 }
 

@@ -1,9 +1,10 @@
-// Registers: device 0 alone, 256 bytes, each with its own mask of the bits that a write alters.
+// Registers: device 0 alone, a byte each with its own mask of the bits that a write alters.
 ghost use Rattle.std.specs.Prelude.{◌≡◌, length};
 ghost use Rattle.std.specs.List.{slice_get};
 ghost use Rattle.bank.specs.Devices.{single};
 ghost use Rattle.bank.specs.Banks.{registers_of, cleared};
 ghost use Rattle.bank.specs.Soundness.{registers_sound};
+ghost use Rattle.bank.specs.declared.registers.TheConstants.{COUNT};
 
 use crate::bank::{Bank, PastEnd};
 use crate::chip::Chip;
@@ -11,17 +12,20 @@ use crate::lone::Lone;
 use crate::register::Register;
 use model::kinds::Kind;
 
+// How many registers there are.
+pub const COUNT: usize = 256;
+
 #[derive(Drop)]
 pub struct RegisterChip {
-    registers: [Register; 256],
-    ghost whole: { length registers ≡ 256 },
+    registers: [Register; COUNT],
+    ghost whole: { length registers ≡ COUNT },
 }
 
 pub type Registers = Lone<RegisterChip>;
 
 impl Lone<RegisterChip> {
     // Registers that are 0, with these masks.
-    pub fn new(masks: [u8; 256]) -> Registers
+    pub fn new(masks: [u8; COUNT]) -> Registers
         ensures { ⟦<Registers as Bank>⟧.devices result ≡ single (cleared masks) }
     {
         let registers = masks.map(|mask| Register { value: 0, mask });
@@ -50,7 +54,7 @@ impl Chip for RegisterChip {
     }
 
     fn len(&self) -> u64 {
-        256
+        self.registers.len() as u64
     }
 
     fn mask(&self, offset: u64) -> Option<u8> {

@@ -10,7 +10,7 @@ use crate::front::Front;
 use crate::lone::Lone;
 use model::kinds::Kind;
 
-// Beside RAM's chip, since one type for both would ask in each method which of the two it is.
+// Beside RAM's chip, since the two differ in kind, in mask and in how they write.
 #[derive(Drop)]
 pub struct RomChip {
     front: Front,
@@ -23,12 +23,10 @@ impl Lone<RomChip> {
     pub fn new(bytes: &[u8]) -> Rom
         ensures { ⟦<Rom as Bank>⟧.devices result ≡ single (burnt bytes.now) }
     {
-        let shown = bytes.len().min(8192);
-        let mut own = [0u8; 8192];
-        own[..shown].copy_from_slice(&bytes[..shown]);
-        let front = Front { bytes: own, shown };
         Lone {
-            chip: RomChip { front },
+            chip: RomChip {
+                front: Front::copy_of(bytes),
+            },
         }
     }
 }

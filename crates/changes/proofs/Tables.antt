@@ -1,5 +1,5 @@
 -- Lists of lines.
-use Rattle.std.proofs.Common.{◌≡◌, ℕ, ◌+◌, ◌<◌, ◌≤◌, Bool, false, List, [], ◌∷◌, ◌++◌, length, get_or, drop, set, Ok, Err, Some, None, Result, Decides, sym, refl, ap, ◌∙◌, subst, append_assoc, append-nil, arith}
+use Rattle.std.proofs.Common.{◌≡◌, ℕ, ◌+◌, ◌<◌, ◌≤◌, ◌≢◌, Bool, false, List, [], ◌∷◌, ◌++◌, length, get_or, drop, set, Ok, Err, Some, None, Result, Decides, sym, refl, ap, ◌∙◌, subst, append_assoc, append-nil, arith}
 use Rattle.std.specs.List.{AllByRecursion}
 use Rattle.std.proofs.lemmas.List.{append_cancel_left, length-append, set_at, drop_more, length_push, flat_map_more}
 use Rattle.std.proofs.ByRecursion.{All-push}
@@ -13,7 +13,7 @@ use Rattle.std.specs.Result.{result_ok}
 use Rattle.model.specs.declared.changes.Change.{Change}
 use Rattle.model.specs.declared.changes.Change.TheVariants.{Removal, Addition}
 use Rattle.changes.specs.Lines.{line, text_of, Writable, Spells}
-use Rattle.changes.specs.Shapes.{Shaped, Lined, NoLine}
+use Rattle.changes.specs.Shapes.{Shaped, Lined, NoLine, Turned}
 use Rattle.changes.proofs.Items.{shaped_free, lined_shaped, lined_free}
 
 -- what a reader of the bytes x found that went over a line of the right shape
@@ -35,6 +35,20 @@ unwritable x c y r g d f b w z e h =
 line_some : (c : Change) (z : List ℕ) → [] ≡ line c ++ z → ⊥
 line_some (Addition r) z e = let f : ◌≡◌ {A = ℕ} 0 1 = cc in omega arith
 line_some (Removal r) z e = let f : ◌≡◌ {A = ℕ} 0 1 = cc in omega arith
+
+-- no bytes begin with no line
+pub ended : (x : List ℕ) → x ≡ [] → NoLine x
+ended x e c w z f h = line_some c z (sym e ∙ f ∙ ap (λ l. l ++ z) h.0)
+
+-- what a turn over the lines of x gave
+module _ {E : Type 0} (x y : List ℕ) where
+  pub turned_line : (r : Result Change E) (c : Change) → Turned x (Some r) y → Some c ≡ result_ok r → Got Lined x c y
+  turned_line (Ok d) c t e = let f : d ≡ c = cc in subst (λ k. Got Lined x k y) f t
+  turned_line (Err d) c t e = absurd (let f : ◌≡◌ {A = ℕ} 0 1 = cc in omega arith)
+
+  pub turned_bad : (r : Result Change E) → Turned x (Some r) y → None ≡ result_ok r → (x ≢ []) × NoLine x
+  turned_bad (Ok d) t e = absurd (let f : ◌≡◌ {A = ℕ} 0 1 = cc in omega arith)
+  turned_bad (Err d) t e = (t.0, t.1)
 
 -- a list of lines that begins with the lines of cs goes on from there
 peel : (cs ds : List Change) (rest : List ℕ) → AllByRecursion Writable cs → AllByRecursion Writable ds → text_of ds ≡ text_of cs ++ rest → (es : List Change) × (ds ≡ cs ++ es) × (text_of es ≡ rest) × AllByRecursion Writable es

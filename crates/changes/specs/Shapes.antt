@@ -1,5 +1,6 @@
 -- Lines and lists of lines, as they are found on the way.
-use Rattle.std.specs.Prelude.{◌≡◌, ℕ, ◌^◌, ◌≤◌, List, ◌++◌, length as len, drop}
+use Rattle.std.specs.Prelude.{◌≡◌, ℕ, ◌^◌, ◌≤◌, ◌≢◌, List, [], ◌++◌, length as len, drop, Some, None, Option, Ok, Err, Result}
+use Rattle.lexis.specs.Lang.{Got}
 use Rattle.model.specs.declared.changes.Change.{Change}
 use Rattle.model.specs.Ranges.{Range}
 use Rattle.model.specs.Changes.{range_of}
@@ -36,3 +37,9 @@ Counted bytes n = (cs : List Change) × Spells bytes cs × (len cs ≡ n)
 -- where the bytes are the text of a list that has room, it stands at the front of a table that was `old` before
 abbrev pub Stored : List ℕ → List Change → List Change → Type 0
 Stored bytes old new = (cs : List Change) → Spells bytes cs → len cs ≤ len old → new ≡ cs ++ drop (len cs) old
+
+-- one turn over the lines of x leaves y: it gives the line at the front, or once that none stands there, or nothing at the end
+abbrev pub Turned : {E : Type 0} → List ℕ → Option (Result Change E) → List ℕ → Type 0
+Turned x None y = (x ≡ []) × (y ≡ [])
+Turned x (Some (Ok c)) y = Got Lined x c y
+Turned x (Some (Err e)) y = (x ≢ []) × NoLine x × (y ≡ [])

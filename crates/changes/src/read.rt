@@ -1,15 +1,17 @@
 // Reading change lists.
-ghost use Rattle.std.specs.Prelude.{◌≤◌, IfOk};
+ghost use Rattle.std.specs.Prelude.{◌≤◌, length, IfOk};
 ghost use Rattle.std.specs.Option.{MatchOption};
-ghost use Rattle.lexis.specs.Lang.{Got, After};
+ghost use Rattle.std.specs.Iterator.{at_most};
+ghost use Rattle.lexis.specs.Lang.{Got, After, Chosen};
 ghost use Rattle.lexis.specs.Moving.{Moves};
 ghost use Rattle.lexis.specs.Numeral.{Number};
-ghost use Rattle.changes.specs.Shapes.{Shaped, Lined, NoLine, NoList, Counted, Stored};
+ghost use Rattle.changes.specs.Shapes.{Shaped, Lined, NoLine, NoList, Counted, Stored, Turned};
 ghost use Rattle.changes.specs.Calls.{Read};
 
 use crate::words::Word;
 use crate::writable::{LAST_LEAF, is_writable};
 use interval::stretches::TOP;
+use lexis::keyword::Keyword;
 use lexis::lost::Lost;
 use lexis::reader::Reader;
 use lexis::tokens::Divider;
@@ -27,21 +29,26 @@ fn number_after(reader: &mut Reader, text: &[u8], most: u64, end: Divider) -> Re
     reader.number(most, end)
 }
 
+// Goes over `text`, and then one of the words of K.
+fn choice_after<K: Keyword>(reader: &mut Reader, text: &[u8]) -> Result<K, Lost>
+    ensures { Moves (After text.now (Chosen K.Keyword.word)) reader.old result reader.new }
+{
+    reader.literal(text)?;
+    reader.choice()
+}
+
 // Goes over a change line of the right shape.
 fn shaped_line(reader: &mut Reader) -> Result<Change, Lost>
     ensures { Moves Shaped reader.old result reader.new }
 {
-    reader.literal(b"(")?;
-    let Word(action) = reader.choice::<Word<Action>>()?;
+    let Word(action) = choice_after::<Word<Action>>(reader, b"(")?;
     let start = number_after(reader, b" (at ", TOP, Divider::Close)?;
     let length = number_after(reader, b" (length ", TOP, Divider::Close)?;
     let leaf = number_after(reader, b" (leaf ", u64::from(LAST_LEAF), Divider::Space)?;
     let device = number_after(reader, b"(device ", u64::from(u16::MAX), Divider::Close)?;
     let offset = number_after(reader, b" (offset ", TOP, Divider::Close)?;
-    reader.literal(b") (kind ")?;
-    let Word(kind) = reader.choice::<Word<Kind>>()?;
-    reader.literal(b") (writes ")?;
-    let Word(writes) = reader.choice::<Word<bool>>()?;
+    let Word(kind) = choice_after::<Word<Kind>>(reader, b") (kind ")?;
+    let Word(writes) = choice_after::<Word<bool>>(reader, b") (writes ")?;
     reader.literal(b"))\n")?;
     // The casts lose nothing, since the limits above are below 2^8 and 2^16.
     let label = Place {
@@ -71,16 +78,41 @@ fn change_at(bytes: &[u8]) -> Option<(Change, &[u8])>
     Some((change, reader.rest()))
 }
 
-// How many lines `bytes` is. No iterator over the lines, since one that ends can't tell the end of the bytes from a
-// line that fails.
+// No line that may stand in a list.
+#[derive(Clone, Copy)]
+struct BadLine;
+
+// The lines of some bytes, in turn. None comes after one that fails.
+#[derive(Drop)]
+struct Lines<'a>(&'a [u8]);
+
+impl<'a> Iterator for Lines<'a> {
+    type Item = Result<Change, BadLine>;
+
+    ghost next_gives = { λ s r t. Turned s.0.now r t.0.now };
+
+    ghost remaining = { λ s. at_most (length s.0.now) };
+
+    fn next(&mut self) -> Option<Result<Change, BadLine>> {
+        if self.0.is_empty() {
+            return None;
+        }
+        let Some((change, after)) = change_at(self.0) else {
+            self.0 = &[];
+            return Some(Err(BadLine));
+        };
+        self.0 = after;
+        Some(Ok(change))
+    }
+}
+
+// How many lines `bytes` is.
 fn count_lines(bytes: &[u8]) -> Option<usize>
     ensures { MatchOption result (NoList bytes.now) (λ n. Counted bytes.now n) }
 {
-    let mut rest = bytes;
     let mut n = 0;
-    while !rest.is_empty() {
-        let (_, after) = change_at(rest)?;
-        rest = after;
+    for line in Lines(bytes) {
+        line.ok()?;
         n += 1;
     }
     Some(n)
@@ -90,13 +122,15 @@ fn count_lines(bytes: &[u8]) -> Option<usize>
 fn store_changes(bytes: &[u8], records: &mut [Change])
     ensures { Stored bytes.now records.old records.new }
 {
-    let mut rest = bytes;
+    let mut lines = Lines(bytes);
     for record in records.iter_mut() {
-        let Some((change, after)) = change_at(rest) else {
+        let Some(line) = lines.next() else {
+            return;
+        };
+        let Ok(change) = line else {
             return;
         };
         *record = change;
-        rest = after;
     }
 }
 

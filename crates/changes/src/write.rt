@@ -10,7 +10,8 @@ use lexis::keyword::Keyword;
 use lexis::line::Line;
 use model::changes::Change;
 
-// The line of a change, with its line feed.
+// The line of a change, with its line feed. Not one `write!`, since no clause says that it answers Ok,
+// and only then does it promise its text.
 pub fn line_of(change: &Change) -> Line
     ensures { shown result ≡ written_line change.now }
 {

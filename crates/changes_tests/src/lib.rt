@@ -7,13 +7,12 @@ mod tests {
     use changes::round_trip::read_back;
     use changes::writable::is_writable;
     use changes::write::write_changes;
+    use interval::stretches::TOP;
     use model::changes::Change;
     use model::kinds::Kind;
     use model::places::Place;
     use model::ranges::Range;
     use std::process::Abort;
-
-    const TOP: u64 = 1 << 40;
 
     // Memory that takes writes.
     fn ram(start: u64, length: u64) -> Range {

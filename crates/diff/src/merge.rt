@@ -11,7 +11,8 @@ use model::changes::{Action, Change};
 use model::places::Place;
 use model::ranges::Range;
 
-// The ranges of one map that another lacks, rising. What the walk has passed is in neither view.
+// The ranges of one map that another lacks, rising. `left` has what is still to come; of `others` all
+// that starts below the range looked at last is gone.
 #[derive(Drop)]
 pub(crate) struct Missing<'a> {
     left: Ordered<'a, Place>,
@@ -42,7 +43,7 @@ fn from_start(ranges: &[Range], address: u64) -> &[Range]
 }
 
 // Whether the first of the ranges is this one.
-fn begin_with(ranges: &[Range], range: &Range) -> bool
+fn starts_with(ranges: &[Range], range: &Range) -> bool
     ensures { result ≡ begins ranges.now range.now }
 {
     ranges.first() == Some(range)
@@ -61,7 +62,7 @@ impl<'a> Iterator for Missing<'a> {
             self.others = Ordered {
                 live: from_start(self.others.live, range.start),
             };
-            if !begin_with(self.others.live, range) {
+            if !starts_with(self.others.live, range) {
                 return Some(*range);
             }
         }
@@ -80,8 +81,9 @@ pub(crate) fn write_missing(
     requires { length (missing (ranges xs.now) (ranges ys.now)) ≤ length list.old }
     ensures { list.new ≡ map (entry_of action) (missing (ranges xs.now) (ranges ys.now)) ++ drop (length (missing (ranges xs.now) (ranges ys.now))) list.old }
 {
-    // By index, since a proof loses what a loop writes through `iter_mut` beside another iterator.
-    for (i, range) in Missing::between(xs, ys).enumerate() {
-        list[i] = action.entry(range);
+    let mut missing = Missing::between(xs, ys);
+    for record in list.iter_mut() {
+        let Some(range) = missing.next() else { break };
+        *record = action.entry(range);
     }
 }

@@ -1,5 +1,5 @@
 -- An accepted edit keeps what is true of every tree.
-use Rattle.std.proofs.Common.{◌≡◌, ℕ, ◌^◌, ◌<◌, ◌≤◌, Bool, true, false, cond, not, eqb, ltb, ◌⊎◌, List, [], ◌∷◌, ◌++◌, length, get_or, ℤ, is_some, Some, None, Ok, Err, filter, Option, Result, sym, refl, ap, ◌∙◌, subst, inl, inr, ⊎_elim, arith}
+use Rattle.std.proofs.Common.{◌≡◌, ℕ, ◌^◌, ◌<◌, ◌≤◌, Bool, true, false, cond, not, eqb, ltb, ◌⊎◌, List, [], ◌∷◌, ◌++◌, length, get_or, ℤ, is_some, Some, None, Ok, Err, filter, Option, sym, refl, ap, ◌∙◌, subst, inl, inr, ⊎_elim, arith}
 use lib.Signed.{lt_z}
 use Rattle.std.specs.List.{AllByRecursion}
 use Rattle.std.proofs.ByRecursion.{All-set}
@@ -11,21 +11,20 @@ use Rattle.tree.specs.declared.regions.Body.{Body}
 use Rattle.tree.specs.declared.regions.Body.TheVariants as body
 use Rattle.tree.specs.declared.regions.Region.{Region}
 use Rattle.tree.specs.declared.regions.Attachment.{Attachment}
-use Rattle.tree.specs.declared.table.Table.{Table}
-use Rattle.tree.specs.Bounds.{bounded_body}
+use Rattle.tree.specs.Bounds.{bad_size, bounded_body}
 use Rattle.tree.specs.Model.{Model, region_at, fresh}
 use Rattle.tree.specs.Order.{attachment_of, has_child, inserted, without_child}
 use Rattle.tree.specs.Paths.{Holds, Edge, holds, shows}
 use Rattle.edits.specs.declared.edit.Edit.{Edit}
 use Rattle.edits.specs.declared.edit.Edit.TheVariants.{Container, Leaf, Alias, Attach, Detach, Move, Switch, Protect, Remove}
 use Rattle.edits.specs.declared.edit.Backing.{Backing}
-use Rattle.edits.specs.Checks.{checked, Changed, Replaced, Tested}
+use Rattle.edits.specs.Checks.{checked}
 use Rattle.edits.specs.Edges.{Short, OneMore, OneNew}
 use Rattle.edits.specs.Edited.{with_region, with_order, switched, marked, again_at, edited}
 use Rattle.edits.specs.Limits.{Low}
 use Rattle.edits.specs.PathTests.{targets, targets_of, too_long, Decided}
-use Rattle.model.specs.Rows.{Row, first_applying}
-use Rattle.edits.specs.Rows.{bad_size, no_number, no_region, defined, child_rows, alias_rows, attach_rows, path_rows, edit_rows}
+use Rattle.model.specs.Rows.{Row, first_applying, told}
+use Rattle.edits.specs.Rows.{no_number, no_region, defined, alias_rows, attach_rows, path_rows, edit_rows}
 use Rattle.edits.proofs.Limits.{Bounded, from_low, Fine, from_fine, fine_anywhere}
 use Rattle.tree.proofs.Orders.{has_without}
 use Rattle.edits.proofs.Orders.{Well, well_kept, well_inserted, well_again, its}
@@ -162,22 +161,19 @@ pub refused : {X : Type 0} (b : Bool) (f e : Fault) (x : X) (later : Option Faul
 refused true f e x later is = cc
 refused false f e x later is = absurd (let z : ◌≡◌ {A = ℕ} 0 1 = cc in omega arith)
 
--- a region that is not the root and is changed
-pub replaced_changed : (b : Backing) (t : Model) (e : Edit) (n : ℕ) (R : Region → Region → Type 0) (r : Result Table Fault) → edit_rows b t e ≡ child_rows t n →
-    ((g h : Region) → region_at t n ≡ Some g → R g h → with_region t n (Some h) ≡ edited b t e) → Replaced t n R r → Changed b t e r
-replaced_changed b t e n R (Ok later) rows same h = (ap first_applying rows ∙ h.0, h.1.4 ∙ same h.1.0 h.1.1 h.1.2 h.1.3)
-replaced_changed b t e n R (Err f) rows same h = ap first_applying rows ∙ h
-
 -- the rows above those of paths, and then those
-pub tested_changed : (b : Backing) (t : Model) (e : Edit) (rs : List Row) (later : Model) (r : Result Table Fault) → edit_rows b t e ≡ rs ++ path_rows (edited b t e) → first_applying rs ≡ None → later ≡ edited b t e → Tested later r → Changed b t e r
-tested_changed b t e rs later r is ok same tested = by_answer r tested
-  where
-    all : first_applying (edit_rows b t e) ≡ first_applying (path_rows later)
-    all = ap first_applying is ∙ passed_then rs (path_rows (edited b t e)) (passes rs ok) ∙ ap (λ m. first_applying (path_rows m)) (sym same)
+pub tested : (b : Backing) (t : Model) (e : Edit) (rs : List Row) (later : Model) → edit_rows b t e ≡ rs ++ path_rows (edited b t e) → first_applying rs ≡ None → later ≡ edited b t e →
+    first_applying (edit_rows b t e) ≡ first_applying (path_rows later)
+tested b t e rs later is ok same = ap first_applying is ∙ passed_then rs (path_rows (edited b t e)) (passes rs ok) ∙ ap (λ m. first_applying (path_rows m)) (sym same)
 
-    by_answer : (r : Result Table Fault) → Tested later r → Changed b t e r
-    by_answer (Ok table) h = (all ∙ h.0, h.1 ∙ same)
-    by_answer (Err f) h = all ∙ h
+-- what an answer says of its refusal
+pub none_told : (o : Option Fault) (x : Unit {0}) → Ok x ≡ told o → o ≡ None
+none_told None x e = refl
+none_told (Some f) x e = absurd (let z : ◌≡◌ {A = ℕ} 0 1 = cc in omega arith)
+
+pub some_told : (o : Option Fault) (f : Fault) → Err f ≡ told o → o ≡ Some f
+some_told None f e = absurd (let z : ◌≡◌ {A = ℕ} 0 1 = cc in omega arith)
+some_told (Some g) f e = cc
 
 pub known : (t : Model) (n : ℕ) (g : Region) → n < 64 → region_at t n ≡ Some g → no_region t n ≡ false
 known t n g lt e = or_from _ _ (le-ltb 63 n (omega arith)) (ap (λ o. not (is_some o)) e)

@@ -3,7 +3,6 @@ use Rattle.std.specs.Prelude.{◌≡◌, ℕ, ◌<◌, Bool, true, false, cond, 
 use Rattle.model.specs.declared.faults.Fault.{Fault}
 use Rattle.model.specs.declared.faults.Fault.TheVariants.{NoRegion, Unattached}
 use Rattle.tree.specs.declared.regions.Attachment.{Attachment}
-use Rattle.tree.specs.declared.regions.Region.{Region}
 use Rattle.tree.specs.declared.regions.Body.TheVariants.{Alias}
 use Rattle.tree.specs.Order.{attachment_of, has_child}
 use Rattle.tree.specs.declared.table.Table.{Table}
@@ -11,9 +10,9 @@ use Rattle.tree.specs.Model.{Model, model_of, region_at, fresh}
 use Rattle.edits.specs.declared.checks.Known.{Known}
 use Rattle.edits.specs.declared.edit.Edit.{Edit}
 use Rattle.edits.specs.declared.edit.Backing.{Backing}
-use Rattle.edits.specs.Edited.{edited, with_region}
+use Rattle.edits.specs.Edited.{edited}
 use Rattle.model.specs.Rows.{Row, first_applying}
-use Rattle.edits.specs.Rows.{no_region, child_rows, new_rows, alias_rows, attach_rows, path_rows, edit_rows}
+use Rattle.edits.specs.Rows.{no_region, child_rows, new_rows, alias_rows, attach_rows, edit_rows}
 
 -- the fault f if the row applies, and else x
 abbrev pub checked : {X : Type 0} → Bool → Fault → X → Result X Fault
@@ -57,11 +56,3 @@ Is t table = model_of table ≡ t
 -- the table that an edit makes, or its refusal
 abbrev pub Changed : Backing → Model → Edit → Result Table Fault → Type 0
 Changed b t e = Answers (edit_rows b t e) (Is (edited b t e))
-
--- the table where a region n that is not the root is changed as R says, or its refusal
-abbrev pub Replaced : Model → ℕ → (Region → Region → Type 0) → Result Table Fault → Type 0
-Replaced t n R = Answers (child_rows t n) (λ later. (g h : Region) × (region_at t n ≡ Some g) × R g h × Is (with_region t n (Some h)) later)
-
--- the table of a tree whose paths are tested, or their refusal
-abbrev pub Tested : Model → Result Table Fault → Type 0
-Tested t = Answers (path_rows t) (Is t)

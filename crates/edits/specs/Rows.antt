@@ -6,6 +6,7 @@ use Rattle.model.specs.declared.faults.Fault.{Fault}
 use Rattle.model.specs.declared.faults.Fault.TheVariants.{BadSize, BadOffset, NoRegion, Defined, Root, NoContainer, BadDevice, InUse, Unattached, Cycle, TooDeep}
 use Rattle.tree.specs.declared.regions.Body.TheVariants as body
 use Rattle.tree.specs.declared.regions.Region.{Region}
+use Rattle.tree.specs.Bounds.{bad_size}
 use Rattle.tree.specs.Model.{Model, region_at}
 use Rattle.tree.specs.Order.{has_child, has_children}
 use Rattle.edits.specs.declared.edit.Edit.{Edit}
@@ -13,9 +14,6 @@ use Rattle.edits.specs.declared.edit.Edit.TheVariants.{Container, Leaf, Alias, A
 use Rattle.edits.specs.declared.edit.Backing.{Backing}
 use Rattle.edits.specs.Edited.{edited}
 use Rattle.edits.specs.PathTests.{comes_back, too_long}
-
-abbrev pub bad_size : ℕ → Bool
-bad_size s = s == 0 || nat_lt (2 ^ 40) s
 
 abbrev pub bad_offset : ℕ → Bool
 bad_offset o = nat_lt (2 ^ 40) o

@@ -2,22 +2,20 @@
 // gives the changed table, or the first refusal that applies.
 #![tactic(auto, unfolding(crate::specs::Edited::edited))]
 
-ghost use Rattle.std.specs.Prelude.{◌≡◌, true, Some};
-ghost use Rattle.tree.specs.Bounds.{bounded_region};
 ghost use Rattle.tree.specs.Model.{model_of};
-ghost use Rattle.tree.specs.declared.regions.Region.{Region};
-ghost use Rattle.edits.specs.Checks.{Changed, Child, New, NewAlias, NewAttachment, Replaced};
+ghost use Rattle.edits.specs.Checks.{Changed, Child, New, NewAlias, NewAttachment};
 ghost use Rattle.edits.specs.declared.edit.Backing.{Backing as Device};
 
 use crate::checks::{
     Known, check_attached, check_container, check_device, check_free, check_no_root, check_number,
-    check_offset, check_region, check_size, check_unattached, check_unused,
+    check_offset, check_region, check_unattached, check_unused,
 };
 use crate::edit::{Backing, Edit};
 use crate::paths::check_paths;
 use crate::tables::{with_child, with_region, without_child};
 use model::faults::Fault;
 use tree::regions::{Attachment, Body, Region};
+use tree::sizes::check_size;
 use tree::table::Table;
 use tree::tree::Tree;
 
@@ -97,7 +95,8 @@ pub(crate) fn make_alias(
 {
     let alias = check_alias(tree, number, size, target, from)?;
     let table = with_region(tree.table, alias.number, Some(alias.region));
-    check_paths(table, alias.number)
+    check_paths(&table, alias.number)?;
+    Ok(table)
 }
 
 // The attachment that is to be made.
@@ -136,7 +135,8 @@ pub(crate) fn attach(
 {
     let new = check_attachment(tree, number, parent, offset, priority)?;
     let table = with_child(tree.table, new);
-    check_paths(table, new.parent)
+    check_paths(&table, new.parent)?;
+    Ok(table)
 }
 
 pub(crate) fn detach(tree: &Tree, number: u64) -> Result<Table, Fault>
@@ -157,37 +157,23 @@ pub(crate) fn move_region(tree: &Tree, number: u64, offset: u64) -> Result<Table
     Ok(with_child(tree.table, attachment))
 }
 
-// Changes a region that is not the root in its own fields.
-fn change_region<F: FnOnce(Region) -> Region>(
-    tree: &Tree,
-    number: u64,
-    change: F,
-) -> Result<Table, Fault>
-    requires callable { F.IsAlwaysCallable change }
-    requires bounded { (g h : Region) → bounded_region (Some g) ≡ true → F.post change g h → bounded_region (Some h) ≡ true }
-    ensures { Replaced (model_of tree.now.table) number (F.post change) result }
-{
-    let child = check_child(tree, number)?;
-    Ok(with_region(tree.table, child.number, Some(change(child.region))))
-}
-
 pub(crate) fn switch(tree: &Tree, number: u64, on: bool) -> Result<Table, Fault>
     ensures { (b : Device) → Changed b (model_of tree.now.table) (Edit.Switch number on) result }
 {
-    change_region(tree, number, |region| Region { on, ..region })
+    let child = check_child(tree, number)?;
+    let region = Region { on, ..child.region };
+    Ok(with_region(tree.table, child.number, Some(region)))
 }
 
 pub(crate) fn protect(tree: &Tree, number: u64, protected: bool) -> Result<Table, Fault>
     ensures { (b : Device) → Changed b (model_of tree.now.table) (Edit.Protect number protected) result }
 {
-    change_region(
-        tree,
-        number,
-        |region| Region {
-            protected,
-            ..region
-        },
-    )
+    let child = check_child(tree, number)?;
+    let region = Region {
+        protected,
+        ..child.region
+    };
+    Ok(with_region(tree.table, child.number, Some(region)))
 }
 
 pub(crate) fn remove(tree: &Tree, number: u64) -> Result<Table, Fault>

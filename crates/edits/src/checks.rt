@@ -2,16 +2,17 @@
 ghost use Rattle.std.specs.Prelude.{◌≡◌, not, ◌||◌, Some, ◌==◌};
 ghost use Rattle.tree.specs.Model.{model_of};
 ghost use Rattle.tree.specs.Order.{has_child, has_children};
-ghost use Rattle.edits.specs.Rows.{bad_size, bad_offset, bad_device, no_number, defined, is_container, shows, aliased};
+ghost use Rattle.edits.specs.Rows.{bad_offset, bad_device, no_number, defined, is_container, shows, aliased};
 ghost use Rattle.edits.specs.Checks.{checked, Found, Attached};
 
 use crate::edit::Backing;
 use interval::stretches::TOP;
 use model::faults::Fault;
 use tree::regions::{Attachment, Body, Region};
+use tree::table::REGIONS;
 use tree::tree::Tree;
 
-// A region of a tree, with its number.
+// A region and its number.
 #[derive(Clone, Copy)]
 pub(crate) struct Known {
     pub(crate) number: u8,
@@ -22,12 +23,6 @@ pub(crate) fn refuse_if(applies: bool, fault: Fault) -> Result<(), Fault>
     ensures { result ≡ checked applies fault tt }
 {
     if applies { Err(fault) } else { Ok(()) }
-}
-
-pub(crate) fn check_size(size: u64) -> Result<(), Fault>
-    ensures { result ≡ checked (bad_size size) Fault.BadSize tt }
-{
-    refuse_if(size == 0 || size > TOP, Fault::BadSize)
 }
 
 pub(crate) fn check_offset(offset: u64) -> Result<(), Fault>
@@ -41,7 +36,7 @@ pub(crate) fn check_number(number: u64) -> Result<u8, Fault>
     ensures { result ≡ checked (no_number number) (Fault.NoRegion number) number }
 {
     match u8::try_from(number) {
-        Ok(index) if index < 64 => Ok(index),
+        Ok(index) if usize::from(index) < REGIONS => Ok(index),
         _ => Err(Fault::NoRegion(number)),
     }
 }

@@ -6,20 +6,23 @@ ghost use Rattle.edits.specs.PathTests.{below, targets_of};
 
 use crate::marks::Marks;
 use tree::regions::{Attachment, Region};
+use tree::table::REGIONS;
 
 impl Marks {
     pub(crate) fn none() -> Marks
         ensures { IsSetOf (λ _. false) result }
     {
         Marks {
-            marked: [false; 64],
+            marked: [false; REGIONS],
         }
     }
 
     pub(crate) fn all() -> Marks
         ensures { IsSetOf (λ _. true) result }
     {
-        Marks { marked: [true; 64] }
+        Marks {
+            marked: [true; REGIONS],
+        }
     }
 
     // One region alone.
@@ -43,7 +46,7 @@ impl Marks {
         self.marked.get(usize::from(number)) == Some(&true)
     }
 
-    // A number from 64 on is no region's.
+    // A number from `REGIONS` on is no region's.
     fn add(&mut self, number: u8)
         ensures { (k : ℕ) → k < 64 → has self.new k ≡ ((number == k) || has self.old k) }
     {
@@ -53,8 +56,8 @@ impl Marks {
         }
     }
 
-    // Adds the regions of another set. By number, since a proof loses what is written through `iter_mut`
-    // beside another iterator.
+    // Adds the regions of another set. By number: a proof loses what is written through `iter_mut` and
+    // `zip`, and with `enumerate` in place of `zip` the other set would be asked by number.
     pub(crate) fn add_all(&mut self, others: &Marks)
         ensures { (k : ℕ) → has self.new k ≡ (has others.now k || has self.old k) }
     {
@@ -75,7 +78,7 @@ impl Marks {
     }
 
     // Adds the aliases of marked regions, whose places in the array are their numbers.
-    pub(crate) fn add_aliases(&mut self, regions: &[Option<Region>; 64], marked: &Marks)
+    pub(crate) fn add_aliases(&mut self, regions: &[Option<Region>; REGIONS], marked: &Marks)
         ensures { (k : ℕ) → has self.new k ≡ (has self.old k || list_any (has marked.now) (targets_of (slice_index_or regions.now k None))) }
     {
         for (number, region) in regions.iter().enumerate() {

@@ -1,9 +1,11 @@
 // Sets of regions.
 ghost use Rattle.std.specs.Prelude.{◌≡◌, length};
 
-// A set of regions: a mark for each number that a region may have, since 64 marks need no heap.
+use tree::table::REGIONS;
+
+// A set of regions: a mark for each number that a region may have, since so few marks need no heap.
 #[derive(Clone, Copy)]
 pub(crate) struct Marks {
-    pub(crate) marked: [bool; 64],
+    pub(crate) marked: [bool; REGIONS],
     ghost whole: { length marked ≡ 64 },
 }

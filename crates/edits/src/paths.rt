@@ -3,10 +3,11 @@
 ghost use Rattle.std.specs.Prelude.{◌≡◌, ℕ, ◌<◌};
 ghost use Rattle.std.specs.List.{list_any};
 ghost use Rattle.tree.specs.Model.{model_of};
-ghost use Rattle.edits.specs.Checks.{Tested};
 ghost use Rattle.edits.specs.Edges.{OneNew};
 ghost use Rattle.edits.specs.Marks.{IsSetOf, has};
 ghost use Rattle.edits.specs.PathTests.{comes_back, onward, reaches, too_long};
+ghost use Rattle.edits.specs.Rows.{path_rows};
+ghost use Rattle.model.specs.Rows.{first_applying, told};
 
 use crate::checks::refuse_if;
 use crate::marks::Marks;
@@ -43,7 +44,9 @@ fn rounds_back(table: &Table, last: Marks, always: &Marks) -> Marks
 fn is_too_long(table: &Table) -> bool
     ensures { result ≡ too_long (model_of table.now) }
 {
-    !rounds_back(table, Marks::all(), &Marks::none()).is_empty()
+    let anywhere = Marks::all();
+    let nowhere = Marks::none();
+    !rounds_back(table, anywhere, &nowhere).is_empty()
 }
 
 // Whether some path comes back to its start. Just one edge is new, from the region `from`, and before
@@ -52,15 +55,16 @@ fn comes_back(table: &Table, from: u8) -> bool
     requires { OneNew (model_of table.now) from }
     ensures { result ≡ comes_back (model_of table.now) }
 {
-    rounds_back(table, Marks::none(), &Marks::only(from)).has(from)
+    let nowhere = Marks::none();
+    let start = Marks::only(from);
+    rounds_back(table, nowhere, &start).has(from)
 }
 
-// A table with one new edge, from a region, unless a path comes back or is too long.
-pub(crate) fn check_paths(table: Table, from: u8) -> Result<Table, Fault>
-    requires { OneNew (model_of table) from }
-    ensures { Tested (model_of table) result }
+// Refuses a path that comes back or is too long, in a table with one new edge, from a region.
+pub(crate) fn check_paths(table: &Table, from: u8) -> Result<(), Fault>
+    requires { OneNew (model_of table.now) from }
+    ensures { result ≡ told (first_applying (path_rows (model_of table.now))) }
 {
-    refuse_if(comes_back(&table, from), Fault::Cycle)?;
-    refuse_if(is_too_long(&table), Fault::TooDeep)?;
-    Ok(table)
+    refuse_if(comes_back(table, from), Fault::Cycle)?;
+    refuse_if(is_too_long(table), Fault::TooDeep)
 }

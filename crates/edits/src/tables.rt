@@ -24,7 +24,7 @@ pub(crate) fn with_child(mut table: Table, new: Attachment) -> Table
     requires { Low new }
     ensures { model_of result ≡ with_order (model_of table) (inserted new (without_child new.child (model_of table).attachments)) }
 {
-    // The order is not full without the child, since each of the 63 regions but the root is in it once.
+    // The order is not full without the child, since each region but the root is in it at most once.
     let _ = table.order.insert(new);
     table
 }

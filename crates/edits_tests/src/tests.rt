@@ -1,18 +1,17 @@
 use edits::apply::edit;
 use edits::edit::{Backing, Edit};
+use interval::stretches::TOP;
 use model::faults::Fault;
 use model::kinds::Kind;
 use std::process::Abort;
 use std::test::Fail;
 use tree::tree::Tree;
 
+// Each crate of tests has one of its own, since crates share no tests.
 const RAM: Backing = Backing {
     kind: Kind::Ram,
     length: 8192,
 };
-
-// The highest size and offset.
-const TOP: u64 = 0x100_0000_0000;
 
 // An edit, and what it answers.
 #[derive(Clone, Copy)]

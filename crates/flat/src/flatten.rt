@@ -27,9 +27,11 @@ pub(crate) fn flattened<S: Source<Shown = Place>>(source: &S, size: u64) -> Resu
 {
     let mut records = [UNUSED; CAPACITY];
     let used = sweep(source, size, &mut records).map_err(|_| Fault::MapFull)?;
-    Ok(FlatMap {
-        map: IntervalMap { records, used },
-    })
+    // What a sweep leaves is in order, so that the map is never refused.
+    let Ok(map) = IntervalMap::from_table(records, used) else {
+        return Err(Fault::MapFull);
+    };
+    Ok(FlatMap { map })
 }
 
 impl FlatMap {

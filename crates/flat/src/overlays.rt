@@ -10,35 +10,28 @@ ghost use Rattle.flat.specs.Overlays.{over, overlay as the_overlay, OverlayLaws}
 use crate::flat_map::FlatMap;
 use crate::flatten::flattened;
 use interval::labels::Label;
+use interval::ordered::Ordered;
 use interval::sightings::Sighting;
 use interval::stretches::TOP;
 use model::faults::Fault;
 use model::places::Place;
-use model::ranges::Range;
 use sweep::sources::Source;
 
 // The place of an address, if a range holds it, and for how many addresses on, up to `limit`, it runs
-// on or there is none.
-fn sight_among(ranges: &[Range], address: u64, limit: u64) -> Sighting<Place>
-    ensures { Sees moved (at moved ranges.now) address limit result }
+// on or there is none; by halving. Address and limit stand apart, as a source is asked for them.
+fn sight_among(ranges: &Ordered<Place>, address: u64, limit: u64) -> Sighting<Place>
+    ensures { Sees moved (at moved ranges.now.live.now) address limit result }
 {
-    let mut limit = limit;
-    for range in ranges {
-        if address < range.start {
-            limit = limit.min(range.start - address);
-            continue;
-        }
-        let passed = address - range.start;
-        if passed < range.length {
-            return Sighting {
-                label: Some(range.label.advance(passed)),
-                extent: limit.min(range.length - passed),
-            };
-        }
+    let Some(range) = ranges.rest_from(address).first() else {
+        return Sighting::nothing(limit);
+    };
+    if address < range.start {
+        return Sighting::nothing(limit.min(range.start - address));
     }
+    let passed = address - range.start;
     Sighting {
-        label: None,
-        extent: limit,
+        label: Some(range.label.advance(passed)),
+        extent: limit.min(range.length - passed),
     }
 }
 
@@ -55,10 +48,10 @@ impl<'a, 'b> Source for Layers<'a, 'b> {
     ghost shows = { λ v. over (at moved (ranges_of v.upper.now)) (at moved (ranges_of v.lower.now)) };
 
     fn sight(&self, address: u64, limit: u64) -> Sighting<Place> {
-        let seen = sight_among(self.upper.ranges(), address, limit);
+        let seen = sight_among(&self.upper.ordered(), address, limit);
         match seen.label {
             Some(_) => seen,
-            None => sight_among(self.lower.ranges(), address, seen.extent),
+            None => sight_among(&self.lower.ordered(), address, seen.extent),
         }
     }
 }

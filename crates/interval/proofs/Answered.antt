@@ -1,5 +1,5 @@
 -- What the calls' definitions come to where the checks have passed.
-use Rattle.std.proofs.Common.{◌≡◌, ℕ, ◌+◌, ◌^◌, ◌<◌, ◌≤◌, Bool, true, false, cond, eqb, leb, List, [], ◌∷◌, ◌++◌, length, take, drop, Ok, Err, Option, Result, sym, ap, ◌∙◌, arith, length-take}
+use Rattle.std.proofs.Common.{◌≡◌, ℕ, ◌+◌, ◌^◌, ◌<◌, ◌≤◌, Bool, true, false, cond, eqb, leb, ltb, List, [], ◌∷◌, ◌++◌, length, take, drop, Ok, Err, Some, None, Result, sym, ap, ◌∙◌, arith, length-take}
 use Rattle.std.proofs.lemmas.List.{take-take, append-nil}
 use Rattle.std.proofs.lemmas.Slice.{between_is}
 use Rattle.std.specs.List.{between as part}
@@ -11,11 +11,11 @@ use Rattle.interval.specs.declared.refusals.Refusal.{Refusal}
 use Rattle.interval.specs.declared.refusals.Refusal.TheVariants.{Empty, High, Disorder, Taken}
 use Rattle.interval.specs.declared.stretches.Stretch.{Stretch}
 use Rattle.interval.specs.Stretches.{rising, ready, stop}
-use Rattle.interval.specs.Edits.{free, cut, paint, ended, started, first_left, last_right}
-use Rattle.interval.specs.Calls.{checked, fitted, spliced, put_goal, cut_goal, paint_goal}
+use Rattle.interval.specs.Edits.{free, cut, paint, ended, started, first_left}
+use Rattle.interval.specs.Calls.{checked, fitted, held, replaced, spliced, put_goal, cut_goal, paint_goal}
 use Rattle.interval.proofs.Cutting.{cut_is}
 use Rattle.interval.proofs.Painting.{paint_is}
-use Rattle.interval.proofs.Spans.{free_is, put_is}
+use Rattle.interval.proofs.Spans.{ended_le, free_is, put_is}
 
 pub record Passed {L : Type 0} (table : List (Stretch L)) (used start size : ℕ) : Type 0 where
   pub some : 0 < size
@@ -62,31 +62,50 @@ module _ {X : Type 0} (table : List X) (used i j : ℕ) (order : i ≤ j) (withi
   pub live_part : drop i (take j (take used table)) ≡ part i j table
   live_part = ap (drop i) (take-take j used table within) ∙ sym (between_is table i j)
 
-module _ {L : Type 0} (adv : L → ℕ → L) (table : List (Stretch L)) (used start size from to : ℕ) (l b : Option (Stretch L))
-    (is_from : from ≡ ended start (take used table)) (is_to : to ≡ started (start + size) (take used table)) (order : from ≤ to) (within : to ≤ used)
-    (before : l ≡ first_left start (part from to table)) (behind : b ≡ last_right adv (start + size) (part from to table))
-    (ok : checked table used start size ≡ Ok tt) where
-  pub cut_goes : cut_goal adv table used start size ≡ fitted table (spliced table used from to (option_to_list l ++ [] ++ option_to_list b))
-  cut_goes =
-      let p = passed table used start size ok in
-      let xs = take used table in
-      let is = cut_is adv start (start + size) (omega arith) 0 xs p.order in
-      let front = live_front table used from to order within in
-      let held = live_part table used from to order within in
-      let nil : option_to_list l ++ [] ≡ option_to_list l = append-nil (option_to_list l) in
-      let same : cut adv start (start + size) xs ≡ spliced table used from to (option_to_list l ++ [] ++ option_to_list b) = cc in
-      ap (fitted table) same
+-- what a replacement comes to, by the places of the records that it takes out
+module _ {L : Type 0} (adv : L → ℕ → L) (table : List (Stretch L)) (used a e : ℕ) (forward : a < e) where
+  abbrev from : ℕ
+  from = ended a (take used table)
 
-module _ {L : Type 0} (adv : L → ℕ → L) (table : List (Stretch L)) (used : ℕ) (s : Stretch L) (from to : ℕ) (l b : Option (Stretch L))
-    (is_from : from ≡ ended s.start (take used table)) (is_to : to ≡ started (stop s) (take used table)) (order : from ≤ to) (within : to ≤ used)
-    (before : l ≡ first_left s.start (part from to table)) (behind : b ≡ last_right adv (stop s) (part from to table))
-    (ok : checked table used s.start s.length ≡ Ok tt) where
-  pub paint_goes : paint_goal adv table used s ≡ fitted table (spliced table used from to (option_to_list l ++ (s ∷ []) ++ option_to_list b))
-  paint_goes =
-      let p = passed table used s.start s.length ok in
-      let xs = take used table in
-      let is = paint_is adv 0 xs s p.some p.order in
-      let front = live_front table used from to order within in
-      let held = live_part table used from to order within in
-      let same : paint adv xs s ≡ spliced table used from to (option_to_list l ++ (s ∷ []) ++ option_to_list b) = cc in
-      ap (fitted table) same
+  abbrev to : ℕ
+  to = started e (take used table)
+
+  order : from ≤ to
+  order = ended_le a e forward (take used table)
+
+  within : to ≤ used
+  within =
+      let h = prefix_len-le-length (λ s. ltb s.start e) (take used table) in
+      let k = length-take used table in
+      omega arith
+
+  front : take from (take used table) ≡ take from table
+  front = live_front table used from to order within
+
+  gone : drop from (take to (take used table)) ≡ held table used a e
+  gone = live_part table used from to order within
+
+pub cut_goes : {L : Type 0} (adv : L → ℕ → L) (table : List (Stretch L)) (used start size : ℕ) → checked table used start size ≡ Ok tt
+    → cut_goal adv table used start size ≡ fitted table (replaced adv table used start (start + size) None)
+cut_goes adv table used start size ok =
+    let p = passed table used start size ok in
+    let forward : start < start + size = omega (arith, p.some) in
+    let xs = take used table in
+    let is = cut_is adv start (start + size) forward 0 xs p.order in
+    let f = front adv table used start (start + size) forward in
+    let h = gone adv table used start (start + size) forward in
+    let nil = append-nil (option_to_list (first_left start (held table used start (start + size)))) in
+    let same : cut adv start (start + size) xs ≡ replaced adv table used start (start + size) None = cc in
+    ap (fitted table) same
+
+pub paint_goes : {L : Type 0} (adv : L → ℕ → L) (table : List (Stretch L)) (used : ℕ) (s : Stretch L) → checked table used s.start s.length ≡ Ok tt
+    → paint_goal adv table used s ≡ fitted table (replaced adv table used s.start (stop s) (Some s))
+paint_goes adv table used s ok =
+    let p = passed table used s.start s.length ok in
+    let forward : s.start < stop s = omega (arith, p.some) in
+    let xs = take used table in
+    let is = paint_is adv 0 xs s p.some p.order in
+    let f = front adv table used s.start (stop s) forward in
+    let h = gone adv table used s.start (stop s) forward in
+    let same : paint adv xs s ≡ replaced adv table used s.start (stop s) (Some s) = cc in
+    ap (fitted table) same

@@ -5,7 +5,7 @@ use mathlib.Core.List.{Memᴰ}
 use Rattle.std.specs.List.{prefix_len}
 use Rattle.std.specs.List.Sorted.{IsNonDecreasingBy, IsPartitionPoint}
 use Rattle.std.proofs.lemmas.Bool.{and_left, and_right, lt-leb, le-ltb, le-leb, cond-true, cond-false, cases_lt, cases_Bool}
-use Rattle.std.proofs.lemmas.List.Sums.{prefix_len_is}
+use Rattle.std.proofs.lemmas.List.Sums.{prefix_len-le-length, prefix_len_is}
 use Rattle.interval.specs.declared.stretches.Stretch.{Stretch}
 use Rattle.interval.specs.Edits.{ended}
 use Rattle.interval.specs.Stretches.{rising, stop, holds, found}
@@ -32,6 +32,10 @@ finds_as xs a o e = subst (Finds xs a) (sym e) (finds xs a)
 pub point_is : {X : Type 0} (p : X → Bool) (xs : List X) (i : ℕ) → i ≤ length xs → IsPartitionPoint (λ y. p y ≡ true) (λ y. p y ≡ false) xs i → i ≡ prefix_len p xs
 point_is p [] i within point = omega arith
 point_is p (x ∷ xs) i within point = sym (prefix_len_is p (x ∷ xs) i x within (λ k lt. point.0 k x (omega arith) lt) (λ lt. point.1 i x (omega arith) lt))
+
+-- no more stretches end than there are
+pub ended_within : {L : Type 0} (a : ℕ) (xs : List (Stretch L)) → ended a xs ≤ length xs
+ended_within a xs = prefix_len-le-length (λ s. leb (stop s) a) xs
 
 module _ {L : Type 0} where
   starts_above : (low : ℕ) (xs : List (Stretch L)) (j : ℕ) (d : Stretch L) → rising low xs ≡ true → j < length xs → low ≤ (get_or xs j d).start

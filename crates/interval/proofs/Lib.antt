@@ -8,6 +8,7 @@ pub mod Only
 pub mod Orders
 pub mod Painting
 pub mod Placing
+mod Removing
 pub mod Rest
 pub mod Spans
 pub mod Standing

@@ -1,16 +1,22 @@
 -- What each call answers: the first refusal that applies, else the value.
 use Rattle.std.specs.Prelude.{◌≡◌, ℕ, ◌+◌, ◌^◌, Bool, true, false, cond, List, ◌++◌, length, take, drop, Ok, Err, Option, Result, ◌==◌, nat_le}
+use Rattle.std.specs.List.{between as part}
+use Rattle.std.specs.Option.{option_to_list}
 use Rattle.interval.specs.declared.refusals.Refusal.{Refusal}
 use Rattle.interval.specs.declared.refusals.Refusal.TheVariants.{Empty, High, Disorder, Taken, Short}
 use Rattle.interval.specs.declared.ordered.Ordered.{Ordered}
 use Rattle.interval.specs.declared.stretches.Stretch.{Stretch}
 use Rattle.interval.specs.Stretches.{ready, found, stop}
-use Rattle.interval.specs.Edits.{free, put, cut, paint, join}
+use Rattle.interval.specs.Edits.{free, ended, started, first_left, last_right, put, cut, paint, join}
 
 -- the live records of the table, or its disorder
 abbrev pub Live : {L : Type 0} → List (Stretch L) → ℕ → Result (Ordered L) Refusal → Type 0
 Live table used (Ok o) = (ready table used ≡ true) × (o.live.now ≡ take used table)
 Live table used (Err e) = (ready table used ≡ false) × (e ≡ Disorder)
+
+-- whether the live records are in order, or their disorder
+abbrev pub readied : {L : Type 0} → List (Stretch L) → ℕ → Result (Unit {0}) Refusal
+readied table used = cond (ready table used) (Ok tt) (Err Disorder)
 
 -- the stretch of an address, or none
 abbrev pub find_answer : {L : Type 0} → List (Stretch L) → ℕ → ℕ → Result (Option (Stretch L)) Refusal
@@ -43,6 +49,16 @@ written table (Err e) = table
 -- the live part with `pieces` in the place of the records `from` up to `to`
 abbrev pub spliced : {X : Type 0} → List X → ℕ → ℕ → ℕ → List X → List X
 spliced table used from to pieces = take from table ++ (pieces ++ drop to (take used table))
+
+-- the live records that hold an address from `a` up to `e`
+abbrev pub held : {L : Type 0} → List (Stretch L) → ℕ → ℕ → ℕ → List (Stretch L)
+held table used a e = part (ended a (take used table)) (started e (take used table)) table
+
+-- the live part where these gave way to what is left of them, with a piece between
+abbrev pub replaced : {L : Type 0} → (L → ℕ → L) → List (Stretch L) → ℕ → ℕ → ℕ → Option (Stretch L) → List (Stretch L)
+replaced advanced table used a e middle =
+    spliced table used (ended a (take used table)) (started e (take used table))
+    (option_to_list (first_left a (held table used a e)) ++ option_to_list middle ++ option_to_list (last_right advanced e (held table used a e)))
 
 -- a put, where the checks have passed, and with the checks
 abbrev pub put_goal : {L : Type 0} → List (Stretch L) → ℕ → Stretch L → Result (List (Stretch L)) Refusal

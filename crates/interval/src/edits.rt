@@ -1,16 +1,16 @@
 // Put, cut and paint.
-ghost use Rattle.std.specs.Prelude.{◌≡◌, ◌<◌, ◌≤◌, true, length, take, Ok};
+ghost use Rattle.std.specs.Prelude.{◌≡◌, ◌<◌, ◌≤◌, true, length, Ok};
 ghost use Rattle.std.specs.List.{between as part};
-ghost use Rattle.interval.specs.Edits.{ended, started, left, right, first_left, last_right};
+ghost use Rattle.interval.specs.Edits.{left, right, first_left, last_right};
 ghost use Rattle.interval.specs.Laws.{Laid, WasFree, CutOut};
 ghost use Rattle.interval.specs.Stretches.{ready};
-ghost use Rattle.interval.specs.Calls.{checked, counted, written, put_goal, put_answer, cut_goal, cut_answer, paint_goal, paint_answer};
+ghost use Rattle.interval.specs.Calls.{checked, fitted, counted, written, replaced, put_goal, put_answer, cut_goal, cut_answer, paint_goal, paint_answer};
 
 use crate::labels::Label;
 use crate::ordered::Ordered;
 use crate::refusals::Refusal;
 use crate::splices::splice;
-use crate::stretches::{Stretch, TOP, is_ready};
+use crate::stretches::{Stretch, TOP, check_ready};
 use std::ops::Range;
 
 // The refusals that all edits share.
@@ -23,25 +23,7 @@ fn check<L>(table: &[Stretch<L>], used: usize, start: u64, length: u64) -> Resul
     if start > TOP || length > TOP - start {
         return Err(Refusal::High);
     }
-    if !is_ready(table, used) {
-        return Err(Refusal::Disorder);
-    }
-    Ok(())
-}
-
-// The live records that hold an address of the span, by their places.
-fn overlap<L: Label>(table: &[Stretch<L>], used: usize, span: &Range<u64>) -> Range<usize>
-    requires ready { ready table.now used ≡ true }
-    requires forward { span.now.start < span.now.end }
-    ensures from { result.start ≡ ended span.now.start (take used table.now) }
-    ensures to { result.end ≡ started span.now.end (take used table.now) }
-    ensures order { result.start ≤ result.end }
-    ensures within { result.end ≤ used }
-{
-    let live = Ordered {
-        live: &table[0..used],
-    };
-    live.overlap(span)
+    check_ready(table, used)
 }
 
 // Adds a stretch, where its addresses are free.
@@ -73,7 +55,7 @@ fn put_checked<L: Label>(
     ensures free { WasFree L.Label.advanced table.old used new result }
 {
     let span = new.start..new.start + new.length;
-    let held = overlap(table, used, &span);
+    let held = Ordered::of(table, used).overlap(&span);
     if !held.is_empty() {
         return Err(Refusal::Taken);
     }
@@ -127,6 +109,24 @@ fn remainders<L: Label>(
     }
 }
 
+// Takes the addresses of the span out, and puts the piece, if there is one, between what is left on
+// both sides.
+fn replace<L: Label>(
+    table: &mut [Stretch<L>],
+    used: usize,
+    span: &Range<u64>,
+    middle: Option<Stretch<L>>,
+) -> Result<usize, Refusal>
+    requires ready { ready table.old used ≡ true }
+    requires forward { span.now.start < span.now.end }
+    ensures count { result ≡ counted (fitted table.old (replaced L.Label.advanced table.old used span.now.start span.now.end middle)) }
+    ensures after { table.new ≡ written table.old (fitted table.old (replaced L.Label.advanced table.old used span.now.start span.now.end middle)) }
+{
+    let held = Ordered::of(table, used).overlap(span);
+    let (left, right) = remainders(table, &held, span);
+    splice(table, used, &held, left, middle, right)
+}
+
 // Takes the addresses out; the remainders on both sides stay.
 pub fn cut<L: Label>(
     table: &mut [Stretch<L>],
@@ -154,10 +154,7 @@ fn cut_checked<L: Label>(
     ensures after { table.new ≡ written table.old (cut_goal L.Label.advanced table.old used start length) }
     ensures stands { CutOut L.Label.advanced table.old used start length table.new result }
 {
-    let span = start..start + length;
-    let held = overlap(table, used, &span);
-    let (left, right) = remainders(table, &held, &span);
-    splice(table, used, &held, left, None, right)
+    replace(table, used, &(start..start + length), None)
 }
 
 // Cuts the addresses of a stretch out, and puts it there.
@@ -185,8 +182,5 @@ fn paint_checked<L: Label>(
     ensures after { table.new ≡ written table.old (paint_goal L.Label.advanced table.old used new) }
     ensures stands { Laid L.Label.advanced table.old used new table.new result }
 {
-    let span = new.start..new.start + new.length;
-    let held = overlap(table, used, &span);
-    let (left, right) = remainders(table, &held, &span);
-    splice(table, used, &held, left, Some(new), right)
+    replace(table, used, &(new.start..new.start + new.length), Some(new))
 }

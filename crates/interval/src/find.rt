@@ -1,14 +1,14 @@
 // Finding the stretch of an address.
-ghost use Rattle.std.specs.Prelude.{◌≡◌, ◌<◌, ◌≤◌, length};
+ghost use Rattle.std.specs.Prelude.{◌≡◌, ◌<◌, ◌≤◌, true, length, take};
 ghost use Rattle.interval.specs.Calls.{find_answer, Live};
 ghost use Rattle.interval.specs.Edits.{ended, started};
 ghost use Rattle.interval.specs.Laws.{Finds, FindStands};
-ghost use Rattle.interval.specs.Stretches.{found};
+ghost use Rattle.interval.specs.Stretches.{found, ready};
 
 use crate::labels::Label;
 use crate::ordered::Ordered;
 use crate::refusals::Refusal;
-use crate::stretches::{Stretch, is_ready};
+use crate::stretches::{Stretch, check_ready};
 use std::ops::Range;
 
 impl<'a, L: Label> Ordered<'a, L> {
@@ -16,16 +16,22 @@ impl<'a, L: Label> Ordered<'a, L> {
     pub fn check(table: &'a [Stretch<L>], used: usize) -> Result<Ordered<'a, L>, Refusal>
         ensures { Live table.now used result }
     {
-        if !is_ready(table, used) {
-            return Err(Refusal::Disorder);
-        }
-        Ok(Ordered {
+        check_ready(table, used)?;
+        Ok(Ordered::of(table, used))
+    }
+
+    // The live records of a table that is ready.
+    pub(crate) fn of(table: &'a [Stretch<L>], used: usize) -> Ordered<'a, L>
+        requires { ready table.now used ≡ true }
+        ensures { result.live.now ≡ take used table.now }
+    {
+        Ordered {
             live: &table[0..used],
-        })
+        }
     }
 
     // How many end at the address or before it, by halving.
-    fn count_ended(&self, address: u64) -> usize
+    pub(crate) fn count_ended(&self, address: u64) -> usize
         ensures { result ≡ ended address self.now.live.now }
     {
         self.live.partition_point(|s| s.ends_by(address))
@@ -38,7 +44,8 @@ impl<'a, L: Label> Ordered<'a, L> {
         self.live.partition_point(|s| s.start < address)
     }
 
-    // Those that hold an address of the span, by their places.
+    // Those that hold an address of the span, by their places: as a range of places, since a type
+    // that kept its order would have to become one at each use, and could not keep where it ends.
     pub(crate) fn overlap(&self, span: &Range<u64>) -> Range<usize>
         requires { span.now.start < span.now.end }
         ensures from { result.start ≡ ended span.now.start self.now.live.now }

@@ -7,7 +7,7 @@ ghost use Rattle.interval.specs.Calls.{counted, written, join_answer};
 
 use crate::labels::{Label, SameLabel};
 use crate::refusals::Refusal;
-use crate::stretches::{Stretch, is_ready};
+use crate::stretches::{Stretch, check_ready};
 
 // Joins the live records, which are in order: in place, since the records move within one slice.
 pub(crate) fn join_live<L: SameLabel>(table: &mut [Stretch<L>], used: usize) -> usize
@@ -41,8 +41,6 @@ pub fn join<L: SameLabel>(table: &mut [Stretch<L>], used: usize) -> Result<usize
     ensures after { table.new ≡ written table.old (join_answer L.Label.advanced L.SameLabel.matches table.old used) }
     ensures stands { Joined L.Label.advanced L.SameLabel.matches table.old used table.new result }
 {
-    if !is_ready(table, used) {
-        return Err(Refusal::Disorder);
-    }
+    check_ready(table, used)?;
     Ok(join_live(table, used))
 }

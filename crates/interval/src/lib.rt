@@ -13,3 +13,4 @@ pub mod refusals;
 pub mod sightings;
 mod splices;
 pub mod stretches;
+pub mod suffixes;

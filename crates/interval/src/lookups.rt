@@ -8,7 +8,7 @@ use crate::labels::Label;
 use crate::maps::IntervalMap;
 use crate::ordered::Ordered;
 use crate::refusals::Refusal;
-use crate::stretches::{Stretch, is_ready};
+use crate::stretches::{Stretch, check_ready};
 
 impl<L: Label, const N: usize> IntervalMap<L, N> {
     // No stretch; `filler` stands in the records that do not count.
@@ -25,9 +25,7 @@ impl<L: Label, const N: usize> IntervalMap<L, N> {
     pub fn from_table(records: [Stretch<L>; N], used: usize) -> Result<IntervalMap<L, N>, Refusal>
         ensures { Tabled records used result }
     {
-        if !is_ready(&records, used) {
-            return Err(Refusal::Disorder);
-        }
+        check_ready(&records, used)?;
         Ok(IntervalMap { records, used })
     }
 

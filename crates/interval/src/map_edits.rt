@@ -1,5 +1,5 @@
 // Changing interval maps.
-ghost use Rattle.std.specs.Prelude.{◌≡◌, List};
+ghost use Rattle.std.specs.Prelude.{◌≡◌, ◌+◌, List, ◌++◌, take, drop};
 ghost use Rattle.interval.specs.Edits.{join as the_join};
 ghost use Rattle.interval.specs.Laws.{Maximal, OnFree};
 ghost use Rattle.interval.specs.Stretches.{at};
@@ -42,6 +42,16 @@ impl<L: Label, const N: usize> IntervalMap<L, N> {
     {
         self.used = edits::paint(&mut self.records, self.used, new)?;
         Ok(())
+    }
+
+    // Takes out the stretch at a place in the order, if there is one.
+    pub fn take_out(&mut self, place: usize)
+        ensures { live self.new ≡ take place (live self.old) ++ drop (place + 1) (live self.old) }
+    {
+        if place < self.used {
+            self.records.copy_within(place + 1..self.used, place);
+            self.used -= 1;
+        }
     }
 }
 

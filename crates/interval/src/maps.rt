@@ -7,8 +7,8 @@ use std::alloc::AllocError;
 
 // At most N stretches that rise without overlap. Of `records` only the first `used` count.
 pub struct IntervalMap<L, const N: usize> {
-    pub records: [Stretch<L>; N],
-    pub used: usize,
+    pub(crate) records: [Stretch<L>; N],
+    pub(crate) used: usize,
     ghost whole: { length records ≡ N },
     ghost fits: { used ≤ N },
     ghost rises: { rising 0 (take used records) ≡ true },

@@ -2,8 +2,10 @@
 ghost use Rattle.std.specs.Prelude.{◌≡◌, ◌+◌, nat_le, Decides};
 ghost use Rattle.interval.specs.Stretches.{stop, lawful, rising, holds, ready, same_stretch};
 ghost use Rattle.interval.specs.Edits.{apart, runs_on};
+ghost use Rattle.interval.specs.Calls.{readied};
 
 use crate::labels::{Label, SameLabel};
+use crate::refusals::Refusal;
 
 // No stretch ends above this address.
 pub const TOP: u64 = 1 << 40;
@@ -84,4 +86,14 @@ pub fn is_ready<L>(table: &[Stretch<L>], used: usize) -> bool
     ensures { result ≡ ready table.now used }
 {
     used <= table.len() && in_order(&table[0..used])
+}
+
+// The refusal of a table that is not ready.
+pub(crate) fn check_ready<L>(table: &[Stretch<L>], used: usize) -> Result<(), Refusal>
+    ensures { result ≡ readied table.now used }
+{
+    if !is_ready(table, used) {
+        return Err(Refusal::Disorder);
+    }
+    Ok(())
 }

@@ -24,8 +24,7 @@ impl SameLabel for Offset {
 
     ghost exact = { alike_exact };
 
-    // An offset is its value: no derive writes an equality for a struct with a ghost field.
     fn same(&self, other: &Offset) -> bool {
-        self.value == other.value
+        *self == *other
     }
 }

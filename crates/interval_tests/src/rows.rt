@@ -21,10 +21,7 @@ impl<'a> Source for Row<'a> {
     fn sight(&self, address: u64, limit: u64) -> Sighting<Offset> {
         let extent = limit.min(1);
         if !self.stretch.covers(address) {
-            return Sighting {
-                label: None,
-                extent,
-            };
+            return Sighting::nothing(extent);
         }
         let label = self.stretch.label.advance(address - self.stretch.start);
         Sighting {

@@ -123,9 +123,9 @@ fn a_map_holds_its_own_records(rt: HostRuntime) {
     map.join();
     assert_eq!(rt; map.len(), 1);
     assert_eq!(rt; map.stretches()[0].length, 16);
-    assert_eq!(rt; map.find(15).is_some(), true);
-    assert_eq!(rt; map.find(16).is_some(), false);
+    assert!(rt; map.find(15).is_some());
+    assert!(rt; map.find(16).is_none());
     let full = [stretch(0, 1, 0), stretch(0, 1, 0)];
-    assert_eq!(rt; IntervalMap::from_table(full, 2).is_err(), true);
-    assert_eq!(rt; IntervalMap::from_table(full, 1).is_ok(), true);
+    assert!(rt; IntervalMap::from_table(full, 2).is_err());
+    assert!(rt; IntervalMap::from_table(full, 1).is_ok());
 }

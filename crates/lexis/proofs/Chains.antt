@@ -5,7 +5,7 @@ use Rattle.std.proofs.lemmas.List.{append_cancel_left}
 use Rattle.lexis.specs.declared.lost.Lost.{Lost as Failed}
 use Rattle.lexis.specs.declared.tokens.Divider.{Divider}
 use Rattle.lexis.specs.declared.reader.Reader.{Reader}
-use Rattle.lexis.specs.Lang.{Begun, Got, Lost, Step, Join, Then, After, Literal}
+use Rattle.lexis.specs.Lang.{Chosen, Begun, Got, Lost, Step, Join, Then, After, Literal}
 use Rattle.lexis.specs.Moving.{Moves, rest_of, lost_of}
 use Rattle.lexis.specs.Numeral.{numeral, Number}
 use Rattle.lexis.specs.Tokens.{mark}
@@ -186,6 +186,10 @@ word_number {M = M} {b = b} {most = most} x r end n h m =
     subst (λ l. Then (After x (Number 16 most end)) M l (n, b)) (append_assoc x v r ∙ ap (λ l. x ++ l) (append_assoc (numeral 16 n) (mark end ∷ []) r))
     (word_item (x ++ v) r (record { more = v; whole = refl; word = record { text = refl; small = h } }) m)
 
+pub word_choice : {K B : Type 0} {M : List ℕ → B → Type 0} {b : B} (word : K → List ℕ) (x r : List ℕ) (k : K) → M r b → Then (After x (Chosen word)) M (x ++ (word k ++ r)) (k, b)
+word_choice {M = M} {b = b} word x r k m =
+    subst (λ l. Then (After x (Chosen word)) M l (k, b)) (append_assoc x (word k) r) (word_item (x ++ word k) r (record { more = word k; whole = refl; word = refl }) m)
+
 -- and back
 pub text_item : {A B : Type 0} {L : List ℕ → A → Type 0} {M : List ℕ → B → Type 0} {w : List ℕ} {p : A × B} (v r : List ℕ) (t : Then L M w p) → t.left ≡ v → t.right ≡ r → w ≡ v ++ r
 text_item v r t d e = t.whole ∙ (λ i. d i ++ e i)
@@ -194,3 +198,6 @@ pub text_number : {B : Type 0} {M : List ℕ → B → Type 0} {w : List ℕ} {p
 text_number {p = p} {end = end} x r t e =
     let v : List ℕ = numeral 16 p.0 ++ mark end ∷ [] in
     text_item (x ++ v) r t (t.first.whole ∙ ap (λ l. x ++ l) t.first.word.text) e ∙ append_assoc x v r ∙ ap (λ l. x ++ l) (append_assoc (numeral 16 p.0) (mark end ∷ []) r)
+
+pub text_choice : {K B : Type 0} {M : List ℕ → B → Type 0} {w : List ℕ} {p : K × B} (word : K → List ℕ) (x r : List ℕ) (t : Then (After x (Chosen word)) M w p) → t.right ≡ r → w ≡ x ++ (word p.0 ++ r)
+text_choice {p = p} word x r t e = text_item (x ++ word p.0) r t (t.first.whole ∙ ap (λ l. x ++ l) t.first.word) e ∙ append_assoc x (word p.0) r

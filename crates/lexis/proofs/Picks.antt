@@ -7,7 +7,7 @@ use Rattle.std.proofs.lemmas.Bool.{eq-eqb, ne_eqb, cond-true, cond-false, cases_
 use Rattle.lexis.specs.declared.lost.Lost.{Lost as Failed}
 use Rattle.lexis.specs.Lang.{Got, Lost, Literal, Chosen, Vocabulary, agree}
 use Rattle.lexis.specs.Reading.{Reading}
-use Rattle.lexis.proofs.Joins.{Free, overlap, lost_by}
+use Rattle.lexis.proofs.Joins.{Free, Some, overlap, lost_by}
 
 head_same : (x y : ℕ) (xs ys : List ℕ) → x ≡ y → agree (x ∷ xs) (y ∷ ys) ≡ suc (agree xs ys)
 head_same x y xs ys e = cond-true (eqb x y) _ _ (eq-eqb x y e) ∙ omega arith
@@ -123,6 +123,9 @@ module _ {K : Type 0} (word : K → List ℕ) (all : List K) (x : List ℕ) wher
       }
 
   module _ (set : Vocabulary word all) where
+    pub chosen_some : Some (Chosen word)
+    chosen_some = let k = element all set.some in record { value = k; text = word k; word = refl }
+
     pub passed_none : Passed 0 0
     passed_none = record { near = (element all set.some, omega arith); short = λ j l d. absurd (omega arith) }
 

@@ -1,6 +1,7 @@
 -- One text after another in a line that keeps its first 256 bytes.
-use Rattle.std.proofs.Common.{◌≡◌, ℕ, zero, suc, ◌+◌, ◌*◌, ◌/◌, ◌%◌, ◌<◌, ◌≤◌, ◌⊎◌, List, [], ◌∷◌, ◌++◌, length, take, sym, refl, ap, ◌∙◌, subst, ⊎_elim, append_assoc, append-nil, arith}
-use Rattle.std.proofs.lemmas.List.{take_all, take_at, length-append}
+use Rattle.std.proofs.Common.{◌≡◌, ℕ, zero, suc, min, ◌+◌, ◌*◌, ◌/◌, ◌%◌, ◌<◌, ◌≤◌, ◌⊎◌, List, [], ◌∷◌, ◌++◌, length, take, sym, refl, ap, ◌∙◌, subst, ⊎_elim, append_assoc, append-nil, arith}
+use Rattle.std.proofs.lemmas.List.{take_all, take_at, take_min, length-append}
+use Rattle.std.proofs.Math.Seq.{take-append-add}
 use Rattle.lexis.specs.declared.line.Line.{Line}
 use Rattle.lexis.specs.Numeral.{glyph, numeral}
 use Rattle.lexis.specs.Shown.{shown, Adds}
@@ -33,6 +34,13 @@ adds_same {s} e g = record { shows = g.shows ∙ ap (λ l. take 256 (shown s ++ 
 -- a line from its beginning
 pub adds_first : {s t : Line} {x : List ℕ} → shown s ≡ [] → length x ≤ 256 → Adds s x t → shown t ≡ x
 adds_first {s} {t} {x} e h g = g.shows ∙ ap (λ l. take 256 (l ++ x)) e ∙ take_all 256 x h
+
+-- as much of a text as there is room for
+pub put_front : (xs text : List ℕ) (k n r : ℕ) → r + length xs ≡ k → n ≡ min (length text) r → xs ++ take n text ≡ take k (xs ++ text)
+put_front xs text k n r room e =
+    let m : n ≡ min r (length text) = omega arith in
+    let s : length xs + r ≡ k = omega arith in
+    ap (λ i. xs ++ take i text) m ∙ ap (λ l. xs ++ l) (take_min r text) ∙ sym (take-append-add xs text r) ∙ ap (λ i. take i (xs ++ text)) s
 
 -- one byte more, and a byte too many
 pub push_room : (xs ys : List ℕ) (k b : ℕ) → length xs < k → ys ≡ xs ++ b ∷ [] → ys ≡ take k (xs ++ b ∷ [])

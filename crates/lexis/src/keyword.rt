@@ -1,10 +1,12 @@
 // Closed sets of words.
-ghost use Rattle.std.specs.Prelude.{◌≡◌, ℕ, ◌+◌, ◌^◌, ◌<◌, List, length};
+ghost use Rattle.std.specs.Prelude.{◌≡◌, ℕ, List};
 ghost use Rattle.lexis.specs.Lang.{Vocabulary, Chosen};
+ghost use Rattle.lexis.specs.Moving.{rest_of, column_of};
 ghost use Rattle.lexis.specs.Reading.{Reading};
 
 use crate::fronts::common;
 use crate::lost::Lost;
+use crate::reader::Reader;
 
 // A closed set of words, none of which begins another: all its members, and the text of each.
 pub trait Keyword: Copy + 'static {
@@ -21,11 +23,11 @@ pub trait Keyword: Copy + 'static {
     ghost lawful: { Vocabulary word all };
 }
 
-// The word of K at the front of a line and the rest, or the column at which they fail.
-pub(crate) fn keyword_at<K: Keyword>(line: &[u8], column: usize) -> Result<(K, &[u8]), Lost>
-    requires { column + length line.now < 2 ^ 64 }
-    ensures { Reading (Chosen K.Keyword.word) line.now column result }
+// The word of K at the front of what a reader has left and the rest, or the column at which they fail.
+pub(crate) fn keyword_at<'a, K: Keyword>(reader: &Reader<'a>) -> Result<(K, &'a [u8]), Lost>
+    ensures { Reading (Chosen K.Keyword.word) (rest_of reader.now) (column_of reader.now) result }
 {
+    let line = reader.rest();
     let mut best = 0;
     for k in K::all() {
         let word = k.word();
@@ -36,6 +38,6 @@ pub(crate) fn keyword_at<K: Keyword>(line: &[u8], column: usize) -> Result<(K, &
         best = n.max(best);
     }
     Err(Lost {
-        column: column + best,
+        column: reader.column() + best,
     })
 }

@@ -1,9 +1,11 @@
-// Numbers in a line: hexadecimal, and every base below it.
+// Hexadecimal numbers in a line.
 ghost use Rattle.std.specs.Prelude.{◌≡◌, ℕ, ◌+◌, ◌^◌, ◌<◌, ◌≤◌, length, MatchOption, ◌≢◌};
 ghost use Rattle.lexis.specs.Numeral.{glyph, Number, Extends, Leads};
+ghost use Rattle.lexis.specs.Moving.{rest_of, column_of};
 ghost use Rattle.lexis.specs.Reading.{Reading};
 
 use crate::lost::Lost;
+use crate::reader::Reader;
 use crate::tokens::{Divider, Token, next_token};
 
 // The digit that a byte shows. Not `to_digit`, which takes the upper case too.
@@ -37,77 +39,63 @@ struct Front {
     digits: usize,
 }
 
-// The numbers of one base up to a most.
-#[derive(Clone, Copy)]
-pub(crate) struct Numerals {
-    base: u64,
-    most: u64,
-    ghost binary_up: { 2 ≤ base },
-    ghost hexadecimal_down: { base ≤ 16 },
-}
-
-impl Numerals {
-    pub(crate) fn hexadecimal(most: u64) -> Numerals
-        ensures base { result.base ≡ 16 }
-        ensures most { result.most ≡ most }
-    {
-        Numerals { base: 16, most }
-    }
-
-    // The number that one more byte makes of a front.
-    fn extended(self, front: Front, b: u8) -> Option<u64>
-        ensures { MatchOption result ((n : ℕ) → Extends self.base self.most front.digits front.value b n → ⊥) (λ n. Extends self.base self.most front.digits front.value b n) }
+impl Front {
+    // The number up to `most` that one more byte makes.
+    fn extended(self, b: u8, most: u64) -> Option<u64>
+        ensures { MatchOption result ((n : ℕ) → Extends 16 most self.digits self.value b n → ⊥) (λ n. Extends 16 most self.digits self.value b n) }
     {
         let d = digit(b)?;
-        if d >= self.base {
+        if self.digits > 0 && self.value == 0 {
             return None;
         }
-        if front.digits > 0 && front.value == 0 {
-            return None;
-        }
-        let next = front.value.checked_mul(self.base)?.checked_add(d)?;
-        if next > self.most {
+        let next = self.value.checked_mul(16)?.checked_add(d)?;
+        if next > most {
             return None;
         }
         Some(next)
     }
+}
 
-    // The longest front of `text` that begins a number.
-    fn leading(self, text: &[u8]) -> Front
-        ensures { Leads self.base self.most text.now result.value result.digits }
-    {
-        let mut value = 0;
-        for (digits, b) in text.iter().enumerate() {
-            let front = Front { value, digits };
-            let Some(next) = self.extended(front, *b) else {
-                return front;
-            };
-            value = next;
-        }
-        Front {
-            value,
-            digits: text.len(),
-        }
-    }
-
-    // A number at the front of a line and the divider after it: its value and the rest, or the column at which they fail.
-    pub(crate) fn read(self, line: &[u8], column: usize, end: Divider) -> Result<(u64, &[u8]), Lost>
-        requires { column + length line.now < 2 ^ 64 }
-        ensures { Reading (Number self.base self.most end) line.now column result }
-    {
-        let (token, after) = next_token(line, column);
-        let Token::Word(text, at) = token else {
-            return Err(Lost { column });
+// The longest front of `text` that begins a number up to `most`.
+fn leading(text: &[u8], most: u64) -> Front
+    ensures { Leads 16 most text.now result.value result.digits }
+{
+    let mut value = 0;
+    for (digits, b) in text.iter().enumerate() {
+        let front = Front { value, digits };
+        let Some(next) = front.extended(*b, most) else {
+            return front;
         };
-        let front = self.leading(text);
-        let stopped = at + front.digits;
-        if front.digits < text.len() {
-            return Err(Lost { column: stopped });
-        }
-        let stop = end.byte();
-        match after {
-            [c, tail @ ..] if *c == stop => Ok((front.value, tail)),
-            _ => Err(Lost { column: stopped }),
-        }
+        value = next;
+    }
+    Front {
+        value,
+        digits: text.len(),
+    }
+}
+
+// A number up to `most` at the front of what a reader has left, and the divider after it: its value and
+// the rest, or the column at which they fail.
+pub(crate) fn number_at<'a>(
+    reader: &Reader<'a>,
+    most: u64,
+    end: Divider,
+) -> Result<(u64, &'a [u8]), Lost>
+    ensures { Reading (Number 16 most end) (rest_of reader.now) (column_of reader.now) result }
+{
+    let column = reader.column();
+    let (token, after) = next_token(reader.rest(), column);
+    let Token::Word(text, at) = token else {
+        return Err(Lost { column });
+    };
+    let front = leading(text, most);
+    let stopped = at + front.digits;
+    if front.digits < text.len() {
+        return Err(Lost { column: stopped });
+    }
+    let stop = end.byte();
+    match after {
+        [c, tail @ ..] if *c == stop => Ok((front.value, tail)),
+        _ => Err(Lost { column: stopped }),
     }
 }

@@ -6,7 +6,8 @@ use crate::lost::Lost;
 
 mod items;
 
-// What is left of a line, and the column of its first byte. Once lost, a reader stays where the line first failed.
+// What is left of a line, and the column of its first byte. Once lost, a reader stays where the line
+// first failed.
 #[derive(Drop)]
 pub struct Reader<'a> {
     rest: &'a [u8],

@@ -1,5 +1,5 @@
 // The pieces of a line.
-ghost use Rattle.std.specs.Prelude.{◌≡◌, ◌≤◌, length, take, drop};
+ghost use Rattle.std.specs.Prelude.{◌≡◌, ◌≤◌, length, take, drop, MatchOption};
 ghost use Rattle.std.specs.List.{AllByRecursion};
 ghost use Rattle.lexis.specs.Tokens.{mark, divider, Plain, Parted, Lexed, start};
 
@@ -21,6 +21,18 @@ impl Divider {
             Divider::Space => b' ',
         }
     }
+
+    // The divider that a byte is.
+    fn of(b: u8) -> Option<Divider>
+        ensures { MatchOption result (Plain b) (λ d. b ≡ mark d) }
+    {
+        match char::from(b) {
+            '(' => Some(Divider::Open),
+            ')' => Some(Divider::Close),
+            ' ' => Some(Divider::Space),
+            _ => None,
+        }
+    }
 }
 
 // A piece of a line, with the column of its first byte; a word borrows its bytes from the line.
@@ -36,10 +48,7 @@ pub enum Token<'a> {
 fn divides(b: u8) -> bool
     ensures { result ≡ divider b }
 {
-    match char::from(b) {
-        ' ' | '(' | ')' => true,
-        _ => false,
-    }
+    Divider::of(b).is_some()
 }
 
 // How many bytes stand before the first divider.
@@ -58,11 +67,11 @@ pub fn next_token<'a>(line: &'a [u8], column: usize) -> (Token<'a>, &'a [u8])
 {
     match line {
         [] => (Token::End(column), line),
-        [first, after @ ..] => match char::from(*first) {
-            '(' => (Token::Open(column), after),
-            ')' => (Token::Close(column), after),
-            ' ' => (Token::Space(column), after),
-            _ => {
+        [first, after @ ..] => match Divider::of(*first) {
+            Some(Divider::Open) => (Token::Open(column), after),
+            Some(Divider::Close) => (Token::Close(column), after),
+            Some(Divider::Space) => (Token::Space(column), after),
+            None => {
                 let (word, after) = line.split_at(word_len(line));
                 (Token::Word(word, column), after)
             }

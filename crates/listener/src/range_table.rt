@@ -4,14 +4,14 @@ ghost use Rattle.listener.specs.Hearing.{vacant};
 ghost use Rattle.listener.specs.Slots.{every_kind};
 
 use crate::listener::Listener;
-use crate::slots::{Slots, TakenKinds};
+use crate::slots::{KindSet, Slots};
 use model::kinds::Kind;
 
 // Every kind is taken.
 #[derive(Clone, Copy)]
 pub struct EveryKind;
 
-impl TakenKinds for EveryKind {
+impl KindSet for EveryKind {
     ghost taken = { every_kind };
 
     fn takes(_kind: Kind) -> bool {

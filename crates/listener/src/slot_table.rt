@@ -4,7 +4,7 @@ ghost use Rattle.listener.specs.Hearing.{vacant};
 ghost use Rattle.listener.specs.Slots.{slot_in, memory_kind, Seated};
 
 use crate::listener::Listener;
-use crate::slots::{Slots, TakenKinds};
+use crate::slots::{KindSet, Slots};
 use model::kinds::Kind;
 use model::ranges::Range;
 
@@ -12,7 +12,7 @@ use model::ranges::Range;
 #[derive(Clone, Copy)]
 pub struct MemoryKinds;
 
-impl TakenKinds for MemoryKinds {
+impl KindSet for MemoryKinds {
     ghost taken = { memory_kind };
 
     fn takes(kind: Kind) -> bool {

@@ -13,8 +13,8 @@ use model::kinds::Kind;
 use model::ranges::Range;
 use std::marker::PhantomData;
 
-// The kinds that a table takes.
-pub trait TakenKinds {
+// Which kinds a table takes, by its type.
+pub trait KindSet {
     ghost taken: { Kind → Bool };
 
     fn takes(kind: Kind) -> bool
@@ -31,7 +31,7 @@ pub struct Slots<K, const N: usize> {
     ghost apart: { lone slots ≡ true },
 }
 
-impl<K: TakenKinds, const N: usize> Slots<K, N> {
+impl<K: KindSet, const N: usize> Slots<K, N> {
     // A table whose slots are all free.
     pub(crate) fn vacant() -> Slots<K, N>
         ensures { table K.taken N result.slots ≡ vacant K.taken N }
@@ -65,7 +65,7 @@ impl<K: TakenKinds, const N: usize> Slots<K, N> {
     }
 }
 
-impl<K: TakenKinds, const N: usize> Listener for Slots<K, N> {
+impl<K: KindSet, const N: usize> Listener for Slots<K, N> {
     ghost hearing = { λ s. table K.taken N s.slots };
 
     ghost kept = { λ s. slots_kept _ _ s.slots s.whole s.apart };
@@ -78,6 +78,7 @@ impl<K: TakenKinds, const N: usize> Listener for Slots<K, N> {
         N
     }
 
+    // Counted each time, since an addition looks at each slot too.
     fn count(&self) -> usize {
         self.slots.iter().flatten().count()
     }

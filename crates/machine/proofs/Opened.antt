@@ -4,8 +4,8 @@ use Rattle.std.proofs.lemmas.List.{nil_from_length}
 use Rattle.std.proofs.lemmas.Bool.{cond-true, cond-false, ltb-false, lt-ltb}
 use Rattle.model.specs.declared.faults.Fault.TheVariants.{BadSize, ListenerInUse}
 use Rattle.model.specs.Ranges.{Range}
+use Rattle.tree.specs.Bounds.{bad_size}
 use Rattle.tree.specs.Model.{root_alone}
-use Rattle.edits.specs.Rows.{bad_size}
 use Rattle.edits.proofs.Sound.{passes}
 use Rattle.diff.specs.Laws.{of_kinds}
 use Rattle.machine.specs.Calls.{Opening}

@@ -8,9 +8,9 @@ use Rattle.model.specs.declared.faults.Fault.{Fault}
 use Rattle.model.specs.declared.kinds.Kind.{Kind}
 use Rattle.model.specs.declared.places.Place.{Place}
 use Rattle.model.specs.Places.{moved, same_place}
+use Rattle.tree.specs.Bounds.{bad_size}
 use Rattle.tree.specs.Model.{root_alone}
 use Rattle.tree.specs.Search.{search, root_size}
-use Rattle.edits.specs.Rows.{bad_size}
 use Rattle.flat.specs.Maps.{map_of}
 use Rattle.diff.specs.declared.counts.Counts.{Counts}
 use Rattle.diff.specs.ChangeLists.{changes, counts as counts_of}

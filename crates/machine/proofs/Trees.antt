@@ -7,6 +7,7 @@ use Rattle.interval.specs.Stretches.{rising}
 use Rattle.model.specs.declared.faults.Fault.{Fault}
 use Rattle.tree.specs.declared.regions.Body.TheVariants as body
 use Rattle.tree.specs.declared.regions.Region.{Region}
+use Rattle.tree.specs.Bounds.{bad_size}
 use Rattle.tree.specs.Model.{Model, region_at, root_alone, fresh}
 use Rattle.tree.specs.Search.{search, size_of, root_size}
 use Rattle.tree.specs.Sights.{Agrees}
@@ -16,7 +17,7 @@ use Rattle.edits.specs.declared.edit.Edit.{Edit}
 use Rattle.edits.specs.declared.edit.Edit.TheVariants.{Container, Leaf, Alias, Attach, Detach, Move, Switch, Protect, Remove}
 use Rattle.edits.specs.declared.edit.Backing.{Backing}
 use Rattle.edits.specs.Edited.{with_region, edited}
-use Rattle.edits.specs.Rows.{bad_size, defined, edit_rows}
+use Rattle.edits.specs.Rows.{defined, edit_rows}
 use Rattle.edits.proofs.Limits.{Fine, from_fine}
 use Rattle.edits.proofs.Sound.{Sound, Passed, passes, fine_new, sound_edit}
 use Rattle.edits.proofs.Walks.{short_lawful}

@@ -3,10 +3,10 @@ use Rattle.std.specs.Prelude.{◌≡◌, ℕ, Bool, false, List, [], ◌∷◌, 
 use Rattle.model.specs.declared.changes.Change.{Change}
 use Rattle.model.specs.declared.kinds.Kind.{Kind}
 use Rattle.model.specs.Ranges.{Range}
+use Rattle.tree.specs.Bounds.{bad_size}
 use Rattle.tree.specs.Model.{Model}
 use Rattle.tree.specs.Paths.{Lawful}
 use Rattle.tree.specs.Sights.{Agrees}
-use Rattle.edits.specs.Rows.{bad_size}
 use Rattle.flat.specs.Laws.{AllLie, RuledBy}
 use Rattle.flat.specs.Maps.{map_of}
 use Rattle.diff.specs.declared.counts.Counts.{Counts}

@@ -5,12 +5,13 @@ use Rattle.model.specs.declared.faults.Fault.TheVariants.{DraftStands, NoDraft, 
 use Rattle.model.specs.declared.kinds.Kind.TheVariants.{Rom}
 use Rattle.model.specs.Ranges.{Range}
 use Rattle.model.specs.Rows.{Row, first_applying}
+use Rattle.tree.specs.Bounds.{bad_size}
 use Rattle.tree.specs.Model.{Model}
 use Rattle.tree.specs.Search.{search}
 use Rattle.edits.specs.declared.edit.Edit.{Edit}
 use Rattle.edits.specs.declared.edit.Edit.TheVariants.{Container, Leaf, Alias, Attach, Detach, Move, Switch, Protect, Remove}
 use Rattle.edits.specs.declared.edit.Backing.{Backing}
-use Rattle.edits.specs.Rows.{bad_size, edit_rows}
+use Rattle.edits.specs.Rows.{edit_rows}
 use Rattle.flat.specs.Maps.{map_of}
 use Rattle.diff.specs.ChangeLists.{changes}
 use Rattle.diff.specs.Laws.{of_kinds}

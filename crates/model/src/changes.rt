@@ -4,7 +4,7 @@ ghost use Rattle.model.specs.Changes.{entry as entry_of, action_of, range_of};
 
 use crate::ranges::Range;
 
-// A range goes, or a range comes.
+// A range goes, or a range comes. An enum, since tests and contracts match on its variants.
 #[derive(Clone, Copy, Debug, PartialEq, Eq)]
 pub enum Change {
     Removal(Range),

@@ -1,11 +1,8 @@
 -- Taking a range out of a table.
-use Rattle.std.proofs.Common.{◌≡◌, ℕ, ◌+◌, ◌-◌, ◌<◌, ◌≤◌, true, ltb, Bool, false, cond, List, [], ◌∷◌, ◌++◌, length, take, drop, Some, None, Option, sym, refl, ap, ◌∙◌, inl, inr, arith, length-drop, length-take}
-use lib.Seq.{paste}
+use Rattle.std.proofs.Common.{◌≡◌, ℕ, ◌+◌, true, ltb, Bool, false, cond, List, [], ◌∷◌, ◌++◌, length, take, drop, Some, None, Option, refl, ap, ◌∙◌, inl, inr, arith}
 use Rattle.std.specs.List.{position, position_or_len}
 use Rattle.std.proofs.lemmas.Grind.{common_steps}
-use Rattle.std.proofs.lemmas.List.{take-take, drop-take}
-use Rattle.std.proofs.lemmas.List.Edits.{take-paste}
-use Rattle.std.proofs.lemmas.Bool.{cond-true, cond-false, cases_Bool, ltb-true}
+use Rattle.std.proofs.lemmas.Bool.{cond-true, cond-false, cases_Bool}
 use Rattle.interval.specs.Stretches.{rising, stop}
 use Rattle.interval.proofs.Spans.{rises}
 use Rattle.interval.proofs.Orders.{rising_from, rising_down}
@@ -45,31 +42,8 @@ found_not false n o e is = refl
 pub stays : (xs : List Range) (r : Range) (o : Option ℕ) → o ≡ position (λ x. same_range x r) xs → o ≡ None → removed xs r ≡ None
 stays xs r o e is = cond-false _ _ _ (listed_is r xs ∙ found_not _ _ o e is)
 
--- the records behind one moved over it
-taken_out : (t : List Range) (used at : ℕ) → at < used → used ≤ length t → take (used - 1) (paste t at (drop (at + 1) t) (used - (at + 1))) ≡ take at (take used t) ++ drop (at + 1) (take used t)
-taken_out t used at h k =
-    let n : ℕ = used - (at + 1) in
-    let e : used - 1 ≡ at + n = omega arith in
-    let f : at + 1 + n ≡ used = omega arith in
-    let m : n ≤ length (drop (at + 1) t) = simp length-drop (omega arith) in
-    ap (λ i. take i (paste t at (drop (at + 1) t) n)) e
-    ∙ take-paste t at (drop (at + 1) t) n (omega arith) m
-    ∙ (λ i. sym (take-take at used t (omega arith)) i ++ (sym (drop-take (at + 1) n t) ∙ ap (λ j. drop (at + 1) (take j t)) f) i)
-
 -- a range that stands at a place is taken out there
-module _ (t now : List Range) (used at : ℕ) (r : Range) (o : Option ℕ) (fits : used ≤ length t) (stands : o ≡ position (λ x. same_range x r) (take used t)) (is : o ≡ Some at)
-    (moved : now ≡ paste t at (drop (at + 1) t) (used - (at + 1))) where
-  found : (ltb (before r (take used t)) (length (take used t)) ≡ true) × (before r (take used t) ≡ at)
-  found = found_at _ _ at o stands is
-
-  pub below : at < used
-  below = omega (arith, ltb-true _ _ found.0, found.1, length-take used t)
-
-  left : take (used - 1) now ≡ without (take used t) r
-  left = ap (take (used - 1)) moved ∙ taken_out t used at below fits ∙ sym (without_is r (take used t) ∙ ap (λ n. take n (take used t) ++ drop (n + 1) (take used t)) found.1)
-
-  pub takes_out : removed (take used t) r ≡ Some (take (used - 1) now)
-  takes_out = cond-true _ _ _ (listed_is r (take used t) ∙ found.0) ∙ ap Some (sym left)
-
-  pub rises_on : rising 0 (take used t) ≡ true → rising 0 (take (used - 1) now) ≡ true
-  rises_on up = ap (rising 0) left ∙ rising_without r 0 (take used t) up
+pub takes_out : (xs : List Range) (at : ℕ) (r : Range) (o : Option ℕ) → o ≡ position (λ x. same_range x r) xs → o ≡ Some at → removed xs r ≡ Some (take at xs ++ drop (at + 1) xs)
+takes_out xs at r o stands is =
+    let found = found_at _ _ at o stands is in
+    cond-true _ _ _ (listed_is r xs ∙ found.0) ∙ ap Some (without_is r xs ∙ ap (λ n. take n xs ++ drop (n + 1) xs) found.1)

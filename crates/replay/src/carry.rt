@@ -1,6 +1,5 @@
 // Carrying out a change list on the ranges that a caller's table holds.
-ghost use Rattle.std.specs.Prelude.{◌≡◌, true, IfOk, None, Some, position as first_position};
-ghost use Rattle.std.specs.Option.{MatchOption};
+ghost use Rattle.std.specs.Prelude.{◌≡◌, true, IfOk, MatchResult, None, Some, position as first_position};
 ghost use Rattle.interval.specs.Maps.{live};
 ghost use Rattle.interval.specs.Stretches.{ready};
 ghost use Rattle.model.specs.Ranges.{same_range};
@@ -23,17 +22,20 @@ fn position(held: &Held, range: &Range) -> Option<usize>
     held.stretches().iter().position(|stretch| stretch == range)
 }
 
-// Takes a held range out, and answers none where it is not held.
-fn remove(held: &mut Held, range: &Range) -> Option<()>
-    ensures { MatchOption result (removed (live held.old) range.now ≡ None) (λ _. removed (live held.old) range.now ≡ Some (live held.new)) }
+// The range to be taken out is not held.
+#[derive(Clone, Copy)]
+struct NotHeld;
+
+// Takes a held range out.
+fn remove(held: &mut Held, range: &Range) -> Result<(), NotHeld>
+    ensures { MatchResult result (λ _. removed (live held.old) range.now ≡ Some (live held.new)) (λ _. removed (live held.old) range.now ≡ None) }
 {
-    let at = position(held, range)?;
-    held.records.copy_within(at + 1..held.used, at);
-    held.used -= 1;
-    Some(())
+    let at = position(held, range).ok_or(NotHeld)?;
+    held.take_out(at);
+    Ok(())
 }
 
-// What a refused put says of the entry.
+// What a refused put says of the entry. No `From`, which has no place for the entry's number.
 fn failure_of(refusal: Refusal, entry: usize) -> Failure
     ensures { result ≡ blame entry refusal }
 {
@@ -50,7 +52,7 @@ fn carry(held: &mut Held, change: Change, entry: usize) -> Result<(), Failure>
     ensures { Carried (fit CAPACITY entry (carried change (live held.old))) (live held.new) result }
 {
     match change {
-        Change::Removal(range) => remove(held, &range).ok_or(Failure::Entry(entry)),
+        Change::Removal(range) => remove(held, &range).map_err(|_| Failure::Entry(entry)),
         Change::Addition(range) => held
             .put(range)
             .map_err(|refusal| failure_of(refusal, entry)),

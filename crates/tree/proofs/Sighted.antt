@@ -14,7 +14,8 @@ use Rattle.tree.specs.declared.regions.Attachment.{Attachment}
 use Rattle.interval.specs.declared.sightings.Sighting.{Sighting}
 use Rattle.tree.specs.Model.{Model, region_at, under, subregions}
 use Rattle.tree.specs.Search.{Searcher, leaf_place, look, in_body, first_of, or_else}
-use Rattle.tree.specs.Sights.{Sees, SeesIn, SeesUnder, onward, nothing, Borders, ends, through, among, BordersUnder, begins, inside, later}
+use Rattle.interval.specs.Sightings.{nothing}
+use Rattle.tree.specs.Sights.{Sees, SeesIn, SeesUnder, onward, Borders, ends, through, among, BordersUnder, begins, inside, later}
 use Rattle.tree.proofs.Steps.{in_open, first_before, first_here, look_step}
 
 pub sees_nothing : (f : ℕ → Option Place) (B : ℕ → Type 0) (limit : ℕ) (s : Sighting Place) → s ≡ nothing limit → ((i : ℕ) → f i ≡ None) → Sees f B limit s

@@ -1,10 +1,14 @@
 -- The bounds of the numbers in a tree.
-use Rattle.std.specs.Prelude.{◌^◌, Bool, true, ◌&&◌, List, [], ◌∷◌, Some, None, Option, nat_le, nat_lt}
+use Rattle.std.specs.Prelude.{ℕ, ◌^◌, Bool, true, ◌&&◌, ◌||◌, List, [], ◌∷◌, Some, None, Option, ◌==◌, nat_le, nat_lt}
 use Rattle.std.specs.List.{list_all}
 use Rattle.tree.specs.declared.regions.Body.{Body}
 use Rattle.tree.specs.declared.regions.Body.TheVariants.{Container, Leaf, Alias}
 use Rattle.tree.specs.declared.regions.Region.{Region}
 use Rattle.tree.specs.declared.regions.Attachment.{Attachment}
+
+-- a size that no region may have
+abbrev pub bad_size : ℕ → Bool
+bad_size s = s == 0 || nat_lt (2 ^ 40) s
 
 -- an alias's target is a region number, and its offset is at most 2^40
 abbrev pub bounded_body : Body → Bool

@@ -1,5 +1,5 @@
 -- The search over a stretch of addresses.
-use Rattle.std.specs.Prelude.{◌≡◌, ℕ, ◌+◌, ◌-◌, ◌^◌, ◌<◌, ◌≤◌, Bool, false, List, ◌∷◌, Some, None, Option}
+use Rattle.std.specs.Prelude.{◌≡◌, ℕ, ◌+◌, ◌-◌, ◌^◌, ◌<◌, ◌≤◌, Bool, false, List, ◌∷◌, Some, Option}
 use Rattle.std.specs.Option.{option_map}
 use Rattle.model.specs.declared.places.Place.{Place}
 use Rattle.model.specs.Places.{moved}
@@ -14,10 +14,6 @@ use Rattle.tree.specs.Finds.{Finds}
 -- what a sighting says of the address i addresses on: no place, or the place advanced by i
 abbrev pub onward : Sighting Place → ℕ → Option Place
 onward s i = option_map (λ p. moved p i) s.label
-
--- no place for as long as the limit goes
-abbrev pub nothing : ℕ → Sighting Place
-nothing limit = record { label = None; extent = limit }
 
 -- `f i` is what is found i addresses on. The sighting s tells it for the addresses of its extent: at most
 -- `limit`, at least one if that is not 0, and fewer than `limit` only up to where `Border` holds. The offsets

@@ -6,5 +6,6 @@ pub mod probes;
 pub mod queries;
 pub mod regions;
 pub mod roots;
+pub mod sizes;
 pub mod table;
 pub mod tree;

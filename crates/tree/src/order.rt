@@ -4,9 +4,10 @@ ghost use Rattle.std.specs.List.{prefix_len};
 ghost use Rattle.tree.specs.Order.{attachment_of, has_children, inserted, once, sorted, without_child};
 
 use crate::regions::Attachment;
+use crate::table::REGIONS;
 
-// All 64 regions but the root may be attached.
-const ROWS: usize = 63;
+// All regions but the root may be attached.
+const ROWS: usize = REGIONS - 1;
 
 // What stands in the entries that do not count.
 const UNUSED: Attachment = Attachment {

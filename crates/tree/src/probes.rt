@@ -1,9 +1,10 @@
 // The search, over a stretch of addresses at once.
 ghost use Rattle.std.specs.Prelude.{◌≡◌, ◌≤◌, false};
+ghost use Rattle.interval.specs.Sightings.{nothing};
 ghost use Rattle.tree.specs.Finds.{Finds};
 ghost use Rattle.tree.specs.Model.{model_of, subregions};
 ghost use Rattle.tree.specs.Search.{leaf_place, root_size, search};
-ghost use Rattle.tree.specs.Sights.{Agrees, Ruled, SeesAt, SeesIn, SeesUnder, nothing};
+ghost use Rattle.tree.specs.Sights.{Agrees, Ruled, SeesAt, SeesIn, SeesUnder};
 
 use crate::regions::Body;
 use crate::tree::Tree;
@@ -13,16 +14,6 @@ use model::places::Place;
 
 // No path has more than 8 edges, so a search goes through at most 9 regions.
 const DEPTH: u8 = 9;
-
-// No place for as long as the limit goes.
-fn nothing(limit: u64) -> Sighting<Place>
-    ensures { result ≡ nothing limit }
-{
-    Sighting {
-        label: None,
-        extent: limit,
-    }
-}
 
 // What a search asks of a region: what stands at an address in it, whether a region above it has the
 // protect mark, and for how many addresses on the answer is to hold.
@@ -58,16 +49,16 @@ fn seek(tree: &Tree, number: u8, probe: Probe, fuel: u8) -> Sighting<Place>
     ensures { SeesIn fuel (model_of tree.now.table) number probe.address probe.mark probe.limit result }
 {
     if fuel == 0 {
-        return nothing(probe.limit);
+        return Sighting::nothing(probe.limit);
     }
     let Some(region) = tree.region(u64::from(number)) else {
-        return nothing(probe.limit);
+        return Sighting::nothing(probe.limit);
     };
     if !region.on || probe.address >= region.size {
-        return nothing(probe.limit);
+        return Sighting::nothing(probe.limit);
     }
     let inside = Probe {
-        mark: probe.mark | region.protected,
+        mark: probe.mark || region.protected,
         limit: probe.limit.min(region.size - probe.address),
         ..probe
     };
@@ -112,7 +103,7 @@ fn seek_under(tree: &Tree, parent: u8, probe: Probe, fuel: u8) -> Sighting<Place
         }
         limit = seen.extent;
     }
-    nothing(limit)
+    Sighting::nothing(limit)
 }
 
 impl Tree {
@@ -124,7 +115,7 @@ impl Tree {
         ensures beyond { root_size (model_of self.now.table) ≤ address → result ≡ nothing limit }
     {
         if address >= self.root_size() {
-            return nothing(limit);
+            return Sighting::nothing(limit);
         }
         let probe = Probe {
             address,

@@ -13,6 +13,7 @@ impl Tree {
         ensures is { result ≡ region_at (model_of self.now.table) number }
         ensures bounded { bounded_region result ≡ true }
     {
+        // A number that is no place of the array is no region's.
         let index = usize::try_from(number).ok()?;
         self.table.regions.get(index).copied().flatten()
     }

@@ -4,9 +4,9 @@ ghost use Rattle.tree.specs.Roots.{begun, told};
 
 use crate::order::SearchOrder;
 use crate::regions::{Body, Region};
-use crate::table::Table;
+use crate::sizes::check_size;
+use crate::table::{REGIONS, Table};
 use crate::tree::Tree;
-use interval::stretches::TOP;
 use model::faults::Fault;
 
 impl Tree {
@@ -14,10 +14,8 @@ impl Tree {
     pub fn new(root_size: u64) -> Result<Tree, Fault>
         ensures { told result ≡ begun root_size }
     {
-        if root_size == 0 || root_size > TOP {
-            return Err(Fault::BadSize);
-        }
-        let mut regions = [None; 64];
+        check_size(root_size)?;
+        let mut regions = [None; REGIONS];
         regions[0] = Some(Region::new(Body::Container, root_size));
         Ok(Tree {
             table: Table {

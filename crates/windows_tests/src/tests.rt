@@ -6,6 +6,7 @@ use std::process::Abort;
 use std::test::Fail;
 use tree::tree::Tree;
 
+// Each crate of tests has one of its own, since crates share no tests.
 const RAM: Backing = Backing {
     kind: Kind::Ram,
     length: 8192,

@@ -4,6 +4,7 @@
 use anyhow::{Context, Result};
 use changes::read::read_changes;
 use changes::write::write_changes;
+use lexis::line;
 use model::changes::{Action, Change};
 use model::ranges::UNUSED;
 use replay::carry::{CAPACITY, carry_out};
@@ -15,16 +16,10 @@ const INPUT: u64 = 65_536;
 
 const RECORDS: usize = 512;
 
-// No change line is longer.
-const LINE: usize = 256;
-
 fn show(rt: &HostRuntime, change: Change) -> Result<()> {
-    let mut line = [0u8; LINE];
+    let mut line = [0u8; line::CAPACITY];
     let length = write_changes(&[change], &mut line).context("a change that cannot be written")?;
-    let Some(text) = line.get(..length) else {
-        return Ok(());
-    };
-    rt.stdout().write_all(text)?;
+    rt.stdout().write_all(&line[..length])?;
     Ok(())
 }
 
@@ -53,9 +48,7 @@ fn run(rt: &HostRuntime) -> Result<()> {
         return Ok(());
     };
     println!(rt; "changes read: {count:x}")?;
-    let Some(changes) = records.get(..count) else {
-        return Ok(());
-    };
+    let changes = &records[..count];
     for change in changes {
         show(rt, *change)?;
     }

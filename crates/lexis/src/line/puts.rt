@@ -36,12 +36,12 @@ impl Line {
     pub fn put(&mut self, text: &[u8])
         ensures { Adds self.old text.now self.new }
     {
-        for b in text {
-            self.push(*b);
-        }
+        let n = text.len().min(self.text.remaining_capacity());
+        let _ = self.text.try_extend_from_slice(&text[..n]);
     }
 
-    // Puts a number in hexadecimal, without leading zeros. By recursion, since `{n:x}` would need an impl of `fmt::Write`.
+    // Puts a number in hexadecimal, without leading zeros. Not `write!` with `{n:x}`, since no clause says
+    // that it answers Ok, and only then does it promise its text.
     pub fn hex(&mut self, n: u64)
         ensures { Adds self.old (numeral 16 n) self.new }
     {

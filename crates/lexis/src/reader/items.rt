@@ -8,7 +8,7 @@ use super::Reader;
 use crate::fronts::common;
 use crate::keyword::{Keyword, keyword_at};
 use crate::lost::Lost;
-use crate::numbers::Numerals;
+use crate::numbers::number_at;
 use crate::tokens::Divider;
 
 impl<'a> Reader<'a> {
@@ -83,7 +83,8 @@ impl<'a> Reader<'a> {
         }
     }
 
-    // Goes over `text`. A reader that is lost stays where it is, here and below, and answers why it was lost.
+    // Goes over `text`. A reader that is lost stays where it is, here and below, and answers why it was
+    // lost.
     pub fn literal(&mut self, text: &[u8]) -> Result<(), Lost>
         ensures { Moves (Literal text.now) self.old result self.new }
     {
@@ -106,7 +107,7 @@ impl<'a> Reader<'a> {
         ensures small { IfOk result (λ n. n ≤ most) }
     {
         self.going()?;
-        let reading = Numerals::hexadecimal(most).read(self.rest, self.column, end);
+        let reading = number_at(self, most, end);
         self.follow(reading)
     }
 
@@ -115,7 +116,7 @@ impl<'a> Reader<'a> {
         ensures { Moves (Chosen K.Keyword.word) self.old result self.new }
     {
         self.going()?;
-        let reading = keyword_at::<K>(self.rest, self.column);
+        let reading = keyword_at::<K>(self);
         self.follow(reading)
     }
 }

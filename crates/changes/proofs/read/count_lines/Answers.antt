@@ -1,11 +1,13 @@
-use Rattle.std.proofs.Common.{length, ap, arith, false-eqb}
-use Rattle.changes.proofs.Tables.{sofar_more, stopped, line_shorter}
+use Rattle.std.proofs.Common.{arith}
+use Rattle.changes.proofs.Tables.{sofar_more, stopped, line_shorter, turned_line, turned_bad}
 use Rattle.changes.proofs.read.count_lines.Goals as goal
 
-pub returns-in_err-after : goal.returns-in_err-after
-returns-in_err-after c =
+pub returns-in_err-ok : goal.returns-in_err-ok
+returns-in_err-ok c =
     rw c.from_residual.ensures
-    (λ ds s. let t = stopped _ _ _ c.loop-rest.invariant.0 c.in_err-after.ensures ds s in false-eqb _ 0 c.loop-rest-test.ensures (ap length t.1))
+    (λ ds s. let b = turned_bad _ _ _ c.in-Some.ensures.steps c.in_err-ok.ensures.value in b.0 (stopped _ _ _ c.loop-line.invariant.0 b.1 ds s).1)
 
-pub loop-rest-preserved : goal.loop-rest-preserved
-loop-rest-preserved c = let g = c.in_ok-after.ensures in (sofar_more _ _ _ _ _ c.loop-rest.invariant.0 g, omega (arith, line_shorter _ _ _ g, c.loop-rest.invariant.1))
+pub loop-line-preserved : goal.loop-line-preserved
+loop-line-preserved c =
+    let g = turned_line _ _ _ _ c.in-Some.ensures.steps c.in_ok-ok.ensures.value in
+    (sofar_more _ _ _ _ _ c.loop-line.invariant.0 g, omega (arith, line_shorter _ _ _ g, c.loop-line.invariant.1))

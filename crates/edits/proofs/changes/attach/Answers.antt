@@ -10,7 +10,7 @@ use Rattle.edits.specs.Edges.{OneNew}
 use Rattle.edits.specs.Edited.{with_order, edited}
 use Rattle.edits.specs.Limits.{Low}
 use Rattle.edits.specs.Rows.{attach_rows, path_rows}
-use Rattle.edits.proofs.Sound.{passes, stopped, low_attachment, one_attachment, tested_changed}
+use Rattle.edits.proofs.Sound.{passes, stopped, low_attachment, one_attachment, tested, none_told, some_told}
 use Rattle.edits.proofs.Trees.{sound_tree}
 use Rattle.edits.proofs.changes.attach.Goals as goal
 use Rattle.edits.proofs.changes.attach.Goals.{After-with_child-table}
@@ -41,10 +41,21 @@ check_paths-requires c =
     let h = c.in_ok-new.ensures in
     let ok = passes (attach_rows t c.args.number c.args.parent c.args.offset) h.0 in
     let from = ap (λ (a : Attachment). a.parent) h.1 in
-    subst (λ (m : Model). OneNew m c.in_ok-new.new.parent) (sym (is_new c)) (subst (OneNew _) (sym from) (one_attachment t c.args.number c.args.parent c.args.offset _ (sound_tree c.args.tree.now) ok))
+    subst (λ (m : Model). OneNew m c.in_ok-new.new.parent) (sym (is_new (goal.at.check_paths-requires c).After-with_child-table)) (subst (OneNew _) (sym from) (one_attachment t c.args.number c.args.parent c.args.offset _ (sound_tree c.args.tree.now) ok))
+
+pub returns-in_err-check_paths : goal.returns-in_err-check_paths
+unfolding edited
+returns-in_err-check_paths c b =
+    let p = err_from_is_err_and c.from_residual-in_err-check_paths.result c.from_residual-in_err-check_paths.ensures.1 in
+    let t = model_of c.args.tree.now.table in
+    let is = is_new (goal.at.returns-in_err-check_paths c).After-with_child-table in
+    let rows = tested b t (Attach c.args.number c.args.parent c.args.offset c.args.priority) (attach_rows t c.args.number c.args.parent c.args.offset) _ refl c.in_ok-new.ensures.0 is in
+    rw (p.1, p.2) (rows ∙ some_told _ _ c.in_err-check_paths.ensures)
 
 pub returns : goal.returns
 unfolding edited
 returns c b =
     let t = model_of c.args.tree.now.table in
-    tested_changed b t (Attach c.args.number c.args.parent c.args.offset c.args.priority) (attach_rows t c.args.number c.args.parent c.args.offset) _ _ refl c.in_ok-new.ensures.0 (is_new (goal.at.returns c).After-with_child-table) c.check_paths.ensures
+    let is = is_new (goal.at.returns c).After-with_child-table in
+    let rows = tested b t (Attach c.args.number c.args.parent c.args.offset c.args.priority) (attach_rows t c.args.number c.args.parent c.args.offset) _ refl c.in_ok-new.ensures.0 is in
+    (rows ∙ none_told _ _ c.in_ok-check_paths.ensures, is)

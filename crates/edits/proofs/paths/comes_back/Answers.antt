@@ -10,5 +10,5 @@ returns c =
     let t = model_of c.args.table.now in
     let h = bounded_table c.args.table.now in
     let one = c.requires in
-    let marks = leads_to_set t c.none.result c.only.result c.rounds_back.result c.args.from 9 h c.none.ensures c.only.ensures c.rounds_back.ensures in
+    let marks = leads_to_set t c.none-nowhere.result c.only-start.result c.rounds_back.result c.args.from 9 h c.none-nowhere.ensures c.only-start.ensures c.rounds_back.ensures in
     c.has.ensures ∙ leads_at t c.args.from 9 c.rounds_back.result h marks ∙ back_is one.before t c.args.from one.to one.one one.short (numbered t h)

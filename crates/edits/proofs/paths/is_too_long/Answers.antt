@@ -13,4 +13,4 @@ pub returns : goal.returns
 unfolding too_long
 returns c =
     let t = model_of c.args.table.now in
-    ap not c.is_empty.ensures ∙ twice _ ∙ any_of_set (goes_on t 9) c.rounds_back.result (goes_on_set t c.all.result c.none.result c.rounds_back.result 9 (bounded_table c.args.table.now) c.all.ensures c.none.ensures c.rounds_back.ensures)
+    ap not c.is_empty.ensures ∙ twice _ ∙ any_of_set (goes_on t 9) c.rounds_back.result (goes_on_set t c.all-anywhere.result c.none-nowhere.result c.rounds_back.result 9 (bounded_table c.args.table.now) c.all-anywhere.ensures c.none-nowhere.ensures c.rounds_back.ensures)

@@ -1,17 +1,18 @@
-use Rattle.flat.proofs.Sighting.{unseen_end, unseen_above, unseen_past, seen_here}
+use Rattle.flat.proofs.Sighting.{sees_end, sees_above, sees_here, reaches}
 use Rattle.flat.proofs.overlays.sight_among.Goals as goal
 
-pub loop-range-preserved-then-address-range : goal.loop-range-preserved-then-address-range
-loop-range-preserved-then-address-range c =
-    unseen_above c.args.ranges.now c.args.address c.args.limit c.loop-range.limit c.loop-range.range-index c.loop-range.invariant c.loop-range-test.true _ c.if-address-range.true c.min-limit.ensures
+pub returns-in_default : goal.returns-in_default
+returns-in_default c = rw c.nothing.ensures
+    (sees_end c.args.ranges.now.live.now c.args.ranges.now.rises c.args.address c.args.limit _ c.rest_from.ensures c.in_default.ensures.value)
 
-pub returns-then-passed-range : goal.returns-then-passed-range
-returns-then-passed-range c =
-    seen_here c.args.ranges.now c.args.address c.args.limit c.loop-range.limit c.loop-range.range-index c.loop-range.invariant c.loop-range-test.true _ _ c.if-address-range.false c.if-passed-range.true c.advance.ensures.moves c.min.ensures
+pub returns-then-address-range : goal.returns-then-address-range
+returns-then-address-range c = rw c.nothing-then-address-range.ensures
+    (sees_above c.args.ranges.now.live.now c.args.ranges.now.rises c.args.address c.args.limit _ c.rest_from.ensures _ c.in-Some.ensures.value _ c.if-address-range.true c.min.ensures)
 
-pub loop-range-preserved : goal.loop-range-preserved
-loop-range-preserved c =
-    unseen_past c.args.ranges.now c.args.address c.args.limit c.loop-range.limit c.loop-range.range-index c.loop-range.invariant c.loop-range-test.true c.if-address-range.false c.if-passed-range.false
+pub overflow_sub-range-2 : goal.overflow_sub-range-2
+overflow_sub-range-2 c =
+    reaches c.args.ranges.now.live.now c.args.ranges.now.rises c.args.address c.args.limit _ c.rest_from.ensures _ c.in-Some.ensures.value c.if-address-range.false
 
 pub returns : goal.returns
-returns c = unseen_end c.args.ranges.now c.args.address c.args.limit c.loop-range.limit c.loop-range.range-index c.loop-range.invariant c.loop-range-test.false
+returns c =
+    sees_here c.args.ranges.now.live.now c.args.ranges.now.rises c.args.address c.args.limit _ c.rest_from.ensures _ c.in-Some.ensures.value _ _ c.if-address-range.false c.advance.ensures.moves c.min-2.ensures

@@ -8,9 +8,7 @@ pub returns : goal.returns
 returns g c =
     let adv = g.L.Label.advanced in
     let xs = c.args.table.now in
-    let o = c.overlap-held.ensures in
-    let e = paint_goes adv xs c.args.used c.args.new _ _ c.remainders-left.result.0 c.remainders-left.result.1
-    o.from o.to o.order o.within c.remainders-left.ensures.before c.remainders-left.ensures.behind c.requires in
-    let n : c.splice.result ≡ counted (paint_goal adv xs c.args.used c.args.new) = c.splice.ensures.count ∙ sym (ap counted e) in
-    let t : c.splice.new.table ≡ written xs (paint_goal adv xs c.args.used c.args.new) = c.splice.ensures.after ∙ sym (ap (written xs) e) in
-    record { count = n; after = t; stands = paint_stands adv xs c.splice.new.table c.args.used c.splice.result g.met.L.Label.sum c.args.new c.requires n t }
+    let e = paint_goes adv xs c.args.used c.args.new c.requires in
+    let n : c.replace.result ≡ counted (paint_goal adv xs c.args.used c.args.new) = c.replace.ensures.count ∙ sym (ap counted e) in
+    let t : c.replace.new.table ≡ written xs (paint_goal adv xs c.args.used c.args.new) = c.replace.ensures.after ∙ sym (ap (written xs) e) in
+    record { count = n; after = t; stands = paint_stands adv xs c.replace.new.table c.args.used c.replace.result g.met.L.Label.sum c.args.new c.requires n t }

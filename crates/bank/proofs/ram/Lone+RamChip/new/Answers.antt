@@ -1,16 +1,7 @@
-use Rattle.std.proofs.Common.{refl, ap, arith, lit<}
-use Rattle.std.proofs.lemmas.Bool.Decides.{nat_tests}
+use Rattle.std.proofs.Common.{ap}
 use Rattle.bank.specs.Devices.{single}
-use Rattle.bank.specs.Soundness.{replicate_small}
 use Rattle.bank.proofs.Fronts.{ram_fresh}
 use Rattle.bank.proofs.ram.Lone+RamChip.new.Goals as goal
 
-pub invariant_of-front : goal.invariant_of-front
-invariant_of-front c = record {
-  whole = refl;
-  within = grind (arith, nat_tests);
-  small = replicate_small 8192 0 (lit< tt);
-}
-
 pub returns : goal.returns
-returns c = ap single (ram_fresh _ c.args.len c.shown_length.ensures)
+returns c = ap single (ram_fresh c.zeros-front.result _ c.args.len c.zeros-front.ensures.shown c.zeros-front.ensures.len c.shown_length.ensures)

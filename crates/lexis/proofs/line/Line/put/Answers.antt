@@ -1,10 +1,11 @@
-use Rattle.std.proofs.Common.{sym}
-use Rattle.std.proofs.lemmas.List.{take_more}
-use Rattle.lexis.proofs.Puts.{adds_none, adds_then, adds_same}
+use Rattle.std.proofs.Common.{◌≡◌, ◌≤◌, ◌+◌, length, take, ◌++◌, ◌∙◌, rules}
+use Rattle.lexis.proofs.Puts.{put_front}
 use Rattle.lexis.proofs.line.Line.put.Goals as goal
 
-pub loop-b-init : goal.loop-b-init
-loop-b-init c = adds_none c.args.self.now
-
-pub loop-b-preserved : goal.loop-b-preserved
-loop-b-preserved c = adds_same (sym (take_more c.args.text.now c.loop-b.b-index 0 c.loop-b-test.true)) (adds_then c.loop-b.invariant c.push.ensures)
+pub returns : goal.returns
+returns c =
+    let shown = c.args.self.now.text.items in
+    let n = c.min-n.result in
+    let fits : length shown + length (take n c.args.text.now) ≤ 256 = search rules in
+    let put : c.try_extend_from_slice.new.self.items ≡ shown ++ take n c.args.text.now = search rules in
+    record { shows = put ∙ put_front shown c.args.text.now 256 n c.remaining_capacity.result c.remaining_capacity.ensures c.min-n.ensures }

@@ -7,4 +7,4 @@ pub invariant_of-result : goal.invariant_of-result
 invariant_of-result g c = record { whole = length-replicate g.row.N _; apart = none_lone g.row.N }
 
 pub returns : goal.returns
-returns g c = ap (λ xs. record { held = xs; kinds = g.K.TakenKinds.taken; capacity = g.row.N }) (none_held g.row.N)
+returns g c = ap (λ xs. record { held = xs; kinds = g.K.KindSet.taken; capacity = g.row.N }) (none_held g.row.N)

@@ -6,15 +6,15 @@ use Rattle.listener.proofs.Hearings.{stays_refused}
 use Rattle.listener.proofs.slots.SlotsListener.add.Goals as goal
 use Rattle.listener.proofs.slots.SlotsListener.add.Goals.{After-from_residual, In_ok-free}
 
-refused : (g : _) (c : After-from_residual g) → admits (table g.K.TakenKinds.taken g.row.N c.args.self.now.slots) c.args.range ≡ false
+refused : (g : _) (c : After-from_residual g) → admits (table g.K.KindSet.taken g.row.N c.args.self.now.slots) c.args.range ≡ false
 refused g c =
     let s = c.args.self.now in
-    no_room g.K.TakenKinds.taken g.row.N s.slots c.args.range s.whole s.apart c.if-not-takes.ensures c.if-not-is_lawful.ensures c.if-not-is_clear.ensures (search rules)
+    no_room g.K.KindSet.taken g.row.N s.slots c.args.range s.whole s.apart c.if-not-takes.ensures c.if-not-is_lawful.ensures c.if-not-is_clear.ensures (search rules)
 
-added : (g : _) (c : In_ok-free g) → Added g.K.TakenKinds.taken g.row.N c.args.self.now.slots c.args.range c.in_ok-free.free
+added : (g : _) (c : In_ok-free g) → Added g.K.KindSet.taken g.row.N c.args.self.now.slots c.args.range c.in_ok-free.free
 added g c =
     let s = c.args.self.now in
-    put_in g.K.TakenKinds.taken g.row.N s.slots c.args.range s.whole s.apart c.if-not-takes.ensures c.if-not-is_lawful.ensures c.if-not-is_clear.ensures _ (search rules)
+    put_in g.K.KindSet.taken g.row.N s.slots c.args.range s.whole s.apart c.if-not-takes.ensures c.if-not-is_lawful.ensures c.if-not-is_clear.ensures _ (search rules)
 
 pub returns-in_err-free-clause-answer : goal.returns-in_err-free-clause-answer
 returns-in_err-free-clause-answer g c = let no = ap answered (refused g c) in search rules

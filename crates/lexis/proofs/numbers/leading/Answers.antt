@@ -1,6 +1,6 @@
 use Rattle.std.proofs.Common.{arith}
 use Rattle.lexis.proofs.Glyphs.{front_more}
-use Rattle.lexis.proofs.numbers.Numerals.leading.Goals as goal
+use Rattle.lexis.proofs.numbers.leading.Goals as goal
 
 pub loop-digits-preserved : goal.loop-digits-preserved
 loop-digits-preserved c =
