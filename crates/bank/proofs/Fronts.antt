@@ -6,7 +6,7 @@ use Rattle.model.specs.declared.kinds.Kind.TheVariants.{Ram as Ram', Rom as Rom'
 use Rattle.bank.specs.declared.front.Front.{Front}
 use Rattle.bank.specs.Devices.{Device, masked, put}
 use Rattle.bank.specs.Banks.{ram_of, rom_of, shown_for, zeroed, burnt}
-use Rattle.bank.specs.Soundness.{Small, take_small, replicate_small, front_long, rom_sound}
+use Rattle.bank.specs.Soundness.{Small, take_small, replicate_small, front_held, front_long, rom_sound}
 use Rattle.bank.proofs.Mixes.{append_small, drop_small, masked_full, masked_none}
 
 -- a write of b where every byte has the same mask, and v is what that makes of the byte
@@ -24,14 +24,14 @@ ram_same xs ys n k p q = rw (p, q)
 pub ram_put : (f g : Front) (o b : ℕ) → b < 256 → g.len ≡ f.len → take g.len g.bytes ≡ set (take f.len f.bytes) o b → ram_of g ≡ put (ram_of f) o b
 ram_put f g o b h same after =
     let xs = take f.len f.bytes in
-    let new = level_put xs f.len 255 o b b (front_long f) (masked_full (get_or xs o 0) b h) in
+    let new = level_put xs f.len 255 o b b (front_long f.len f.bytes (front_held f)) (masked_full (get_or xs o 0) b h) in
     ram_same (take g.len g.bytes) _ g.len f.len (after ∙ sym new) same
 
 -- ROM keeps its byte
 pub rom_put : (f : Front) (o b : ℕ) → rom_of f ≡ put (rom_of f) o b
 rom_put f o b =
     let xs = take f.len f.bytes in
-    let old = level_put xs f.len 0 o b (get_or xs o 0) (front_long f) (masked_none (get_or xs o 0) b ((rom_sound f).small o)) in
+    let old = level_put xs f.len 0 o b (get_or xs o 0) (front_long f.len f.bytes (front_held f)) (masked_none (get_or xs o 0) b ((rom_sound f).small o)) in
     ap (λ (ys : List ℕ). record { kind = Rom'; bytes = ys; masks = replicate f.len 0 }) (sym (set-get_or xs o 0) ∙ sym old)
 
 -- RAM as it is made

@@ -18,9 +18,12 @@ ram_of f = front Ram 255 f.bytes f.len
 abbrev pub rom_of : Front → Device
 rom_of f = front Rom 0 f.bytes f.len
 
--- registers, each byte under a mask of its own
+-- registers with these bytes, each under a mask of its own
+abbrev pub registers_with : List ℕ → List ℕ → Device
+registers_with bytes masks = record { kind = Reg; bytes = bytes; masks = masks }
+
 abbrev pub registers_of : List Register → Device
-registers_of rs = record { kind = Reg; bytes = map (λ r. r.value) rs; masks = map (λ r. r.mask) rs }
+registers_of rs = registers_with (map (λ r. r.value) rs) (map (λ r. r.mask) rs)
 
 -- the length that RAM shows where n is asked for
 abbrev pub shown_for : ℕ → ℕ

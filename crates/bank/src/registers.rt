@@ -28,7 +28,14 @@ impl Lone<RegisterChip> {
     pub fn new(masks: [u8; COUNT]) -> Registers
         ensures { ⟦<Registers as Bank>⟧.devices result ≡ single (cleared masks) }
     {
-        let registers = masks.map(|mask| Register { value: 0, mask });
+        // A repeat and a loop, which become wide moves; `map` would make the registers one at a time.
+        let mut registers = [Register { value: 0, mask: 0 }; COUNT];
+        for (place, mask) in masks.iter().enumerate() {
+            registers[place] = Register {
+                value: 0,
+                mask: *mask,
+            };
+        }
         Lone {
             chip: RegisterChip { registers },
         }

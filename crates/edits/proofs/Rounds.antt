@@ -83,15 +83,15 @@ onward_low t k h =
     All-append (λ x. x < 64) (children k t.attachments) (targets_of (region_at t k)) (children_low k t.attachments (low_from t.attachments h.offsets)) (target_low (region_at t k) (fine_anywhere t.regions k (fine_from t.regions h.sizes)))
 
 -- one round more
-pub reach_more : (t : Model) (last always was mid now : Marks) (n : ℕ) → Bounded t → IsSetOf (reaches t (has last) (has always) n) was →
-    ((k : ℕ) → has mid k ≡ (has always k || has was k)) → IsSetOf (λ k. list_any (has mid) (onward t k)) now →
-    IsSetOf (reaches t (has last) (has always) (n + 1)) now
+pub reach_more : (t : Model) (last : Marks) (always : ℕ → Bool) (was mid now : Marks) (n : ℕ) → Bounded t → IsSetOf (reaches t (has last) always n) was →
+    ((k : ℕ) → k < 64 → has mid k ≡ (always k || has was k)) → IsSetOf (λ k. list_any (has mid) (onward t k)) now →
+    IsSetOf (reaches t (has last) always (n + 1)) now
 unfolding reaches
 reach_more t last always was mid now n h inv joined step =
-    subst (λ i. IsSetOf (reaches t (has last) (has always) i) now) (sym (add-one n)) (λ k lt.
-    step k lt ∙ any_same _ _ (onward t k) (onward_low t k h) (λ x low. joined x ∙ ap (λ b. has always x || b) (inv x low)))
+    subst (λ i. IsSetOf (reaches t (has last) always i) now) (sym (add-one n)) (λ k lt.
+    step k lt ∙ any_same _ _ (onward t k) (onward_low t k h) (λ x low. joined x low ∙ ap (λ b. always x || b) (inv x low)))
 
-pub reach_first : (t : Model) (last always : Marks) → IsSetOf (reaches t (has last) (has always) 0) last
+pub reach_first : (t : Model) (last : Marks) (always : ℕ → Bool) → IsSetOf (reaches t (has last) always 0) last
 unfolding reaches
 reach_first t last always k lt = refl
 
@@ -111,11 +111,11 @@ unfolding reaches leads_to
 leads_is t s zero k = refl
 leads_is t s (suc n) k = λ i. list_any (λ q. eqb q s || leads_is t s n q i) (onward t k)
 
-pub goes_on_set : (t : Model) (all none m : Marks) (n : ℕ) → Bounded t → IsSetOf (λ _. true) all → IsSetOf (λ _. false) none → IsSetOf (reaches t (has all) (has none) n) m → IsSetOf (goes_on t n) m
-goes_on_set t all none m n h every empty is k lt = is k lt ∙ reach_same t _ _ _ _ h every empty n k lt ∙ goes_is t n k
+pub goes_on_set : (t : Model) (all m : Marks) (none : ℕ → Bool) (n : ℕ) → Bounded t → IsSetOf (λ _. true) all → ((k : ℕ) → k < 64 → none k ≡ false) → IsSetOf (reaches t (has all) none n) m → IsSetOf (goes_on t n) m
+goes_on_set t all m none n h every empty is k lt = is k lt ∙ reach_same t _ _ _ _ h every empty n k lt ∙ goes_is t n k
 
-pub leads_to_set : (t : Model) (none only m : Marks) (s n : ℕ) → Bounded t → IsSetOf (λ _. false) none → IsSetOf (λ k. eqb k s) only → IsSetOf (reaches t (has none) (has only) n) m → IsSetOf (leads_to t n s) m
-leads_to_set t none only m s n h empty one is k lt = is k lt ∙ reach_same t _ _ _ _ h empty one n k lt ∙ leads_is t s n k
+pub leads_to_set : (t : Model) (none m : Marks) (only : ℕ → Bool) (s n : ℕ) → Bounded t → IsSetOf (λ _. false) none → ((k : ℕ) → k < 64 → only k ≡ eqb k s) → IsSetOf (reaches t (has none) only n) m → IsSetOf (leads_to t n s) m
+leads_to_set t none m only s n h empty one is k lt = is k lt ∙ reach_same t _ _ _ _ h empty one n k lt ∙ leads_is t s n k
 
 -- the numbers of regions
 below_low : (n : ℕ) → n ≤ 64 → AllByRecursion (λ x. x < 64) (below n)

@@ -1,7 +1,7 @@
 // Sets of regions, made, asked and added to.
 ghost use Rattle.std.specs.Prelude.{◌≡◌, ℕ, ◌<◌, true, false, not, ◌||◌, None, ◌==◌, slice_index_or};
 ghost use Rattle.std.specs.List.{list_any};
-ghost use Rattle.edits.specs.Marks.{IsSetOf, has, children};
+ghost use Rattle.edits.specs.Marks.{IsSetOf, has, just, children};
 ghost use Rattle.edits.specs.PathTests.{below, targets_of};
 
 use crate::marks::Marks;
@@ -23,15 +23,6 @@ impl Marks {
         Marks {
             marked: [true; REGIONS],
         }
-    }
-
-    // One region alone.
-    pub(crate) fn only(number: u8) -> Marks
-        ensures { IsSetOf (λ k. k == number) result }
-    {
-        let mut marks = Marks::none();
-        marks.add(number);
-        marks
     }
 
     pub(crate) fn is_empty(&self) -> bool
@@ -56,13 +47,12 @@ impl Marks {
         }
     }
 
-    // Adds the regions of another set. By number: a proof loses what is written through `iter_mut` and
-    // `zip`, and with `enumerate` in place of `zip` the other set would be asked by number.
-    pub(crate) fn add_all(&mut self, others: &Marks)
-        ensures { (k : ℕ) → has self.new k ≡ (has others.now k || has self.old k) }
+    // Adds a region, if there is one.
+    pub(crate) fn add_some(&mut self, number: Option<u8>)
+        ensures { (k : ℕ) → k < 64 → has self.new k ≡ (just number k || has self.old k) }
     {
-        for (number, other) in others.marked.iter().enumerate() {
-            self.marked[number] |= *other;
+        if let Some(number) = number {
+            self.add(number);
         }
     }
 
@@ -82,14 +72,15 @@ impl Marks {
         ensures { (k : ℕ) → has self.new k ≡ (has self.old k || list_any (has marked.now) (targets_of (slice_index_or regions.now k None))) }
     {
         for (number, region) in regions.iter().enumerate() {
-            self.marked[number] |= shows_marked(*region, marked);
+            self.marked[number] |= shows_marked(region, marked);
         }
     }
 }
 
-fn shows_marked(region: Option<Region>, marked: &Marks) -> bool
-    ensures { result ≡ list_any (has marked.now) (targets_of region) }
+// By reference: each round asks it of all the regions, and of copies it takes nearly twice the steps.
+fn shows_marked(region: &Option<Region>, marked: &Marks) -> bool
+    ensures { result ≡ list_any (has marked.now) (targets_of region.now) }
 {
-    let target = region.and_then(|region| region.target());
+    let target = region.as_ref().and_then(Region::target);
     target.is_some_and(|target| marked.has(target))
 }

@@ -4,7 +4,7 @@ ghost use Rattle.std.specs.Prelude.{◌≡◌, ℕ, ◌<◌};
 ghost use Rattle.std.specs.List.{list_any};
 ghost use Rattle.tree.specs.Model.{model_of};
 ghost use Rattle.edits.specs.Edges.{OneNew};
-ghost use Rattle.edits.specs.Marks.{IsSetOf, has};
+ghost use Rattle.edits.specs.Marks.{IsSetOf, has, just};
 ghost use Rattle.edits.specs.PathTests.{comes_back, onward, reaches, too_long};
 ghost use Rattle.edits.specs.Rows.{path_rows};
 ghost use Rattle.model.specs.Rows.{first_applying, told};
@@ -28,13 +28,13 @@ fn step_back(table: &Table, marked: &Marks) -> Marks
 }
 
 // The regions from which a path of `TOO_FAR` edges leads to one of `last`, or of fewer, but one at
-// least, to one of `always`.
-fn rounds_back(table: &Table, last: Marks, always: &Marks) -> Marks
-    ensures { IsSetOf (reaches (model_of table.now) (has last) (has always.now) 9) result }
+// least, to `always`.
+fn rounds_back(table: &Table, last: Marks, always: Option<u8>) -> Marks
+    ensures { IsSetOf (reaches (model_of table.now) (has last) (just always) 9) result }
 {
     let mut marked = last;
     for _ in 0..TOO_FAR {
-        marked.add_all(always);
+        marked.add_some(always);
         marked = step_back(table, &marked);
     }
     marked
@@ -45,8 +45,7 @@ fn is_too_long(table: &Table) -> bool
     ensures { result ≡ too_long (model_of table.now) }
 {
     let anywhere = Marks::all();
-    let nowhere = Marks::none();
-    !rounds_back(table, anywhere, &nowhere).is_empty()
+    !rounds_back(table, anywhere, None).is_empty()
 }
 
 // Whether some path comes back to its start. Just one edge is new, from the region `from`, and before
@@ -56,8 +55,7 @@ fn comes_back(table: &Table, from: u8) -> bool
     ensures { result ≡ comes_back (model_of table.now) }
 {
     let nowhere = Marks::none();
-    let start = Marks::only(from);
-    rounds_back(table, nowhere, &start).has(from)
+    rounds_back(table, nowhere, Some(from)).has(from)
 }
 
 // Refuses a path that comes back or is too long, in a table with one new edge, from a region.

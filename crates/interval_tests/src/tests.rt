@@ -129,3 +129,15 @@ fn a_map_holds_its_own_records(rt: HostRuntime) {
     assert!(rt; IntervalMap::from_table(full, 2).is_err());
     assert!(rt; IntervalMap::from_table(full, 1).is_ok());
 }
+
+#[test]
+fn a_map_gives_up_a_stretch(rt: HostRuntime) {
+    let mut map: IntervalMap<Offset, 2> = IntervalMap::new(stretch(0, 0, 0));
+    assert_eq!(rt; map.put(stretch(0, 4, 7)), Ok(()));
+    assert_eq!(rt; map.put(stretch(8, 4, 9)), Ok(()));
+    map.take_out(2);
+    assert_eq!(rt; map.len(), 2);
+    map.take_out(0);
+    assert_eq!(rt; map.len(), 1);
+    assert_eq!(rt; map.stretches()[0].start, 8);
+}

@@ -26,6 +26,14 @@ pub record Some {A : Type 0} (L : List ℕ → A → Type 0) : Type 0 where
   pub word : L text value
 
 module _ {A B : Type 0} (L : List ℕ → A → Type 0) (M : A → List ℕ → B → Type 0) where
+  pub got_then : (x y z : List ℕ) (a : A) (b : B) → Got L x a y → Got (M a) y b z → Got (Join L M) x b z
+  got_then x y z a b g h =
+      record {
+        front = g.front ++ h.front;
+        split = g.split ∙ ap (λ l. g.front ++ l) h.split ∙ sym (append_assoc g.front h.front z);
+        word = record { value = a; left = g.front; right = h.front; whole = refl; first = g.word; second = h.word };
+      }
+
   pub lost_first : (x y : List ℕ) → ((a : A) → Some (M a)) → Lost L x y → Lost (Join L M) x y
   lost_first x y full h =
       record {

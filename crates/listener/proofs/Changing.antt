@@ -1,5 +1,5 @@
 -- What an addition and a removal make of the slots.
-use Rattle.std.proofs.Common.{◌≡◌, ℕ, ◌<◌, Bool, true, false, List, length, set, is_some, Some, None, Option, sym, ap, ◌∙◌, arith}
+use Rattle.std.proofs.Common.{◌≡◌, ℕ, ◌+◌, ◌<◌, Bool, true, false, List, length, set, is_some, Some, None, Option, sym, ap, ◌∙◌, arith}
 use Rattle.std.proofs.lemmas.List.{length-set}
 use Rattle.std.proofs.lemmas.Bool.{and_from, and_right, lt-ltb, le-ltb, cond-true}
 use Rattle.interval.specs.Stretches.{stop, lawful}
@@ -9,7 +9,8 @@ use Rattle.model.specs.Ranges.{Range, listed}
 use Rattle.listener.specs.Hearing.{admits, with_held, added, removed}
 use Rattle.listener.specs.Slots.{held_in, lone, slot_in, free_in, table, Stays}
 use Rattle.listener.proofs.Hearings.{still_held}
-use Rattle.listener.specs.Sets.{without_absent}
+use Rattle.listener.specs.Rising.{length_put}
+use Rattle.listener.specs.Sets.{length_without, without_absent}
 use Rattle.listener.specs.Slotting.{full, free_within, put_held, put_lone, put_stays, listed_slot, clear_held, clear_lone, clear_stays}
 
 -- what an addition to a free slot makes
@@ -20,6 +21,8 @@ pub record Added (kinds : Kind → Bool) (n : ℕ) (s : List (Option Range)) (r 
   pub stays : Stays s (set s i (Some r))
   pub whole : length (set s i (Some r)) ≡ n
   pub apart : lone (set s i (Some r)) ≡ true
+  pub few : length (held_in s) < n
+  pub longer : length (held_in (set s i (Some r))) ≡ length (held_in s) + 1
 
 -- what a removal from a range's slot makes
 pub record Removed (kinds : Kind → Bool) (n : ℕ) (s : List (Option Range)) (r : Range) (i : ℕ) : Type 0 where
@@ -27,6 +30,7 @@ pub record Removed (kinds : Kind → Bool) (n : ℕ) (s : List (Option Range)) (
   pub stays : Stays s (set s i None)
   pub whole : length (set s i None) ≡ n
   pub apart : lone (set s i None) ≡ true
+  pub shorter : length (held_in s) ≡ length (held_in (set s i None)) + 1
 
 -- an addition, and then the removal
 pub stays_through : (kinds : Kind → Bool) (n : ℕ) (s t u : List (Option Range)) (r : Range) → table kinds n t ≡ added (table kinds n s) r → Stays s t → Stays t u → Stays s u
@@ -53,6 +57,8 @@ module _ (kinds : Kind → Bool) (n : ℕ) (s : List (Option Range)) (r : Range)
           stays = put_stays r l s i m g;
           whole = length-set s i (Some r) ∙ whole;
           apart = put_lone r l s i apart m g;
+          few = omega (arith, w.1);
+          longer = ap length (put_held r l s i apart m g) ∙ length_put (held_in s) r ∙ omega arith;
         }
 
   pub not_there : None ≡ slot_in s r → table kinds n s ≡ removed (table kinds n s) r
@@ -67,4 +73,5 @@ module _ (kinds : Kind → Bool) (n : ℕ) (s : List (Option Range)) (r : Range)
         stays = clear_stays r s i apart g;
         whole = length-set s i None ∙ whole;
         apart = clear_lone r s i apart g;
+        shorter = sym (omega (arith, ap length (clear_held r s i apart g), length_without (held_in s) r (sym (listed_slot r s) ∙ ap is_some g)));
       }

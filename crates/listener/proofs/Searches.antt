@@ -9,7 +9,7 @@ use Rattle.std.proofs.lemmas.Iterator.Consumers.{YieldsList-from_shown}
 use Rattle.interval.specs.Edits.{apart, free}
 use Rattle.model.specs.Ranges.{Range, same_range}
 use Rattle.listener.specs.Slots.{held_in, slot_in, free_in}
-use Rattle.listener.specs.Rising.{free_put, length_put}
+use Rattle.listener.specs.Rising.{free_put}
 
 -- whether the slot has the range; whether it has none
 abbrev pub has : Range → Option Range → Bool
@@ -52,16 +52,11 @@ first_free = first is_free free_in refl go
     go None s = refl
     go (Some x) s = refl
 
--- the ranges in the order of their slots are as many as those that rise by start, and as clear of a range
+-- the ranges in the order of their slots are as clear of a range as those that rise by start
 pub all_clear : (a e : ℕ) (s : List (Option Range)) → list_all (apart a e) (flat_map option_to_list s) ≡ free a e (held_in s)
 all_clear a e [] = refl
 all_clear a e (None ∷ s) = all_clear a e s
 all_clear a e (Some x ∷ s) = ap (λ t. apart a e x && t) (all_clear a e s) ∙ sym (free_put a e (held_in s) x)
-
-pub as_many : (s : List (Option Range)) → length (flat_map option_to_list s) ≡ length (held_in s)
-as_many [] = refl
-as_many (None ∷ s) = as_many s
-as_many (Some x ∷ s) = ap suc (as_many s) ∙ sym (length_put (held_in s) x)
 
 -- an iterator that gives the value of an option, if it has one, and then has done
 module _ {A S : Type 0} (item : S → Option A) (done : S → Bool) where

@@ -26,9 +26,11 @@ pub trait KindSet {
 #[derive(Drop)]
 pub struct Slots<K, const N: usize> {
     slots: [Option<Range>; N],
+    count: usize,
     kinds: PhantomData<K>,
     ghost whole: { length slots ≡ N },
     ghost apart: { lone slots ≡ true },
+    ghost counted: { count ≡ length (held_in slots) },
 }
 
 impl<K: KindSet, const N: usize> Slots<K, N> {
@@ -38,6 +40,7 @@ impl<K: KindSet, const N: usize> Slots<K, N> {
     {
         Slots {
             slots: [None; N],
+            count: 0,
             kinds: PhantomData,
         }
     }
@@ -78,9 +81,8 @@ impl<K: KindSet, const N: usize> Listener for Slots<K, N> {
         N
     }
 
-    // Counted each time, since an addition looks at each slot too.
     fn count(&self) -> usize {
-        self.slots.iter().flatten().count()
+        self.count
     }
 
     // No range that is held leaves its slot.
@@ -94,6 +96,7 @@ impl<K: KindSet, const N: usize> Listener for Slots<K, N> {
         }
         let free = self.find_free().ok_or(Refused)?;
         self.slots[free] = Some(range);
+        self.count += 1;
         Ok(())
     }
 
@@ -105,6 +108,7 @@ impl<K: KindSet, const N: usize> Listener for Slots<K, N> {
     {
         let slot = self.find(&range).ok_or(Refused)?;
         self.slots[slot] = None;
+        self.count -= 1;
         Ok(())
     }
 

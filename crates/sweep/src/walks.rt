@@ -50,6 +50,7 @@ impl<'a, S: Source> Walk<'a, S> {
         requires { self.old.address < self.old.size }
         ensures gives { to_come S.Shown.Label.advanced S.Shown.SameLabel.matches (S.Source.shows self.old.source.now) self.old.size self.old.address self.old.last ≡ option_to_list result ++ to_come S.Shown.Label.advanced S.Shown.SameLabel.matches (S.Source.shows self.new.source.now) self.new.size self.new.address self.new.last }
         ensures on { self.old.address < self.new.address }
+        ensures within { self.new.address ≤ self.new.size }
         ensures size { self.new.size ≡ self.old.size }
     {
         let start = self.address;

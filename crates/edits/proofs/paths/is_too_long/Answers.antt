@@ -1,5 +1,6 @@
-use Rattle.std.proofs.Common.{◌≡◌, Bool, true, false, not, refl, ap, ◌∙◌}
+use Rattle.std.proofs.Common.{◌≡◌, Bool, true, false, not, None, refl, ap, ◌∙◌}
 use Rattle.tree.specs.Model.{model_of}
+use Rattle.edits.specs.Marks.{just}
 use Rattle.edits.specs.PathTests.{goes_on, too_long}
 use Rattle.edits.proofs.Limits.{bounded_table}
 use Rattle.edits.proofs.Rounds.{any_of_set, goes_on_set}
@@ -13,4 +14,4 @@ pub returns : goal.returns
 unfolding too_long
 returns c =
     let t = model_of c.args.table.now in
-    ap not c.is_empty.ensures ∙ twice _ ∙ any_of_set (goes_on t 9) c.rounds_back.result (goes_on_set t c.all-anywhere.result c.none-nowhere.result c.rounds_back.result 9 (bounded_table c.args.table.now) c.all-anywhere.ensures c.none-nowhere.ensures c.rounds_back.ensures)
+    ap not c.is_empty.ensures ∙ twice _ ∙ any_of_set (goes_on t 9) c.rounds_back.result (goes_on_set t c.all-anywhere.result c.rounds_back.result (just None) 9 (bounded_table c.args.table.now) c.all-anywhere.ensures (λ k lt. refl) c.rounds_back.ensures)

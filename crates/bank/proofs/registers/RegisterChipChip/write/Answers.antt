@@ -7,4 +7,4 @@ use Rattle.bank.proofs.registers.RegisterChipChip.write.Goals as goal
 pub returns-clause-after : goal.returns-clause-after
 returns-clause-after c =
     let near : c.args.offset < length c.args.self.now.registers = omega (arith, length-map c.args.self.now.registers (λ (r : Register). r.value)) in
-    registers_put c.args.self.now.registers c.args.offset c.args.byte _ c.after.result near c.after.ensures.value c.after.ensures.mask
+    registers_put c.args.self.now.registers c.args.offset c.args.byte _ _ near c.after.ensures.value (omega (arith, c.after.ensures.mask))

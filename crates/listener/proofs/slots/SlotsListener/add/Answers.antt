@@ -1,4 +1,4 @@
-use Rattle.std.proofs.Common.{◌≡◌, sym, ap, false, rules}
+use Rattle.std.proofs.Common.{◌≡◌, ◌<◌, sym, ap, false, arith, rules}
 use Rattle.listener.specs.Hearing.{admits, answered}
 use Rattle.listener.specs.Slots.{table}
 use Rattle.listener.proofs.Changing.{Added, no_room, put_in}
@@ -28,8 +28,15 @@ offset_bounds-self-free g c = let h = (added g c).within in search rules
 pub bounds-self-free : goal.bounds-self-free
 bounds-self-free g c = (added g (goal.at.bounds-self-free g c).In_ok-free).within
 
+pub overflow_add-self : goal.overflow_add-self
+overflow_add-self g c =
+    let s = c.args.self.now in
+    let d = added g (goal.at.overflow_add-self g c).In_ok-free in
+    let few : s.count < g.row.N = omega (arith, s.counted, d.few) in
+    search rules
+
 pub invariant_of-self : goal.invariant_of-self
-invariant_of-self g c = let d = added g (goal.at.invariant_of-self g c).In_ok-free in record { whole = d.whole; apart = d.apart }
+invariant_of-self g c = let d = added g (goal.at.invariant_of-self g c).In_ok-free in record { whole = d.whole; apart = d.apart; counted = omega (arith, d.longer, c.args.self.now.counted) }
 
 pub returns : goal.returns
 returns g c = let d = added g (goal.at.returns g c).In_ok-free in
